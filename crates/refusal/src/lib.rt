@@ -1,0 +1,33 @@
+// The causes for which a call is refused, in one enum for the whole product.
+// Each cause has a fixed number, by which a script or an operator knows it.
+// Main promise: `number` answers the number that the definition `numberOf` gives the cause.
+ghost use mathlib.Core.Path.{_≡_};
+ghost use Rattle.refusal.specs.Numbers.{numberOf};
+
+#[derive(Clone, Copy, Debug, PartialEq, Eq)]
+pub enum Refusal {
+    // a byte of the sheet is no mark
+    MarkNotAllowed,
+    // a line of the sheet has not the form of a lease, or the sheet is too long
+    FormBroken,
+    // a number is outside 1 to 480, or a group's last slot lies before its first
+    OutOfRange,
+    // a slot is given twice
+    SlotTwice,
+    // a client is named on two lines
+    ClientTwice,
+}
+
+impl Refusal {
+    pub fn number(self) -> u8
+        ensures { λ r. ⌜ r ≡ numberOf self ⌝ }
+    {
+        match self {
+            Refusal::MarkNotAllowed => 1,
+            Refusal::FormBroken => 2,
+            Refusal::OutOfRange => 3,
+            Refusal::SlotTwice => 4,
+            Refusal::ClientTwice => 5,
+        }
+    }
+}
