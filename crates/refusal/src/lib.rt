@@ -18,6 +18,22 @@ pub enum Refusal {
     ClientTwice,
 }
 
+// The level at which a sheet is refused: its marks, the form of a line, or the calendar that it gives.
+#[derive(Clone, Copy, Debug, PartialEq, Eq)]
+pub enum Level {
+    Marks,
+    Forms,
+    Calendar,
+}
+
+// Why a sheet is refused: the cause, the level that found it, and the line, counted from 1.
+#[derive(Clone, Copy, Debug, PartialEq, Eq)]
+pub struct SheetRefusal {
+    pub cause: Refusal,
+    pub level: Level,
+    pub line: usize,
+}
+
 impl Refusal {
     pub fn number(self) -> u8
         ensures { λ r. ⌜ r ≡ numberOf self ⌝ }

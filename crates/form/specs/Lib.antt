@@ -1,0 +1,3 @@
+pub mod Lease
+pub mod Marks
+pub mod Form
