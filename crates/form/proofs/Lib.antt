@@ -3,3 +3,4 @@ pub mod Digits
 pub mod Lines
 pub mod Numbers
 pub mod Texts
+pub mod Plain

@@ -1,6 +1,7 @@
 -- The form of a line: (client N (slots A B) (slots A B) ..), with single blanks and one or more groups.
 use mathlib.Core.Bool.{Bool, true, false, cond}
 use mathlib.Core.List.{List, [], _∷_}
+use mathlib.Core.Path.{_≡_}
 use Prim.Native.Nat.{ℕ, zero, suc, _+_, _-_, _*_}
 use lib.Chars.{codes}
 use lib.Dec.{eqb}
@@ -9,7 +10,7 @@ use Rattle.std.specs.declared.option.Option.{Option}
 use Rattle.std.specs.declared.option.Option.the-variants.{Some, None}
 use Rattle.std.specs.shelf.Text.{sameBytes}
 use Rattle.form.specs.Marks.{digit}
-use Rattle.form.specs.Lease.{Group, Lease}
+use Rattle.form.specs.Lease.{Group, Lease, Writable, leaseText}
 
 abbrev pub bind : {A B : Type 0} → Option A → (A → Option B) → Option B
 bind None f = None
@@ -68,3 +69,7 @@ groups (suc k) xs = bind (group xs) λ g. cond (closes (g .1)) (Some (g .0 ∷ [
 -- the lease that a line without its newline writes; a text has no more groups than bytes
 abbrev pub form : List ℕ → Option Lease
 form xs = bind (opening xs) λ c. bind (groups (length (c .1)) (c .1)) λ gs. Some (record { client = c .0; groups = gs })
+
+-- a text is read as a lease exactly if it is that lease written out
+abbrev pub FormExact : Type 0
+FormExact = ((l : Lease) → Writable l → form (leaseText l) ≡ Some l) × ((xs : List ℕ) (l : Lease) → form xs ≡ Some l → Writable l × (xs ≡ leaseText l))

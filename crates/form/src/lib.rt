@@ -7,7 +7,7 @@ ghost use Prim.Native.Nat.{ℕ, _+_, _-_, _*_, _<_, _≤_};
 ghost use Rattle.std.specs.declared.option.Option.the-variants.{Some, None};
 ghost use Rattle.std.specs.Results.{Cases};
 ghost use Rattle.std.specs.Options.{Cases as OptionCases};
-ghost use Rattle.form.specs.Form.{after, leading, extended, number, opening, group, closes};
+ghost use Rattle.form.specs.Form.{after, leading, extended, number, opening, group, closes, FormExact};
 ghost use Rattle.form.specs.Marks.{markOf, marked, firstLine};
 use refusal::Level;
 use refusal::Refusal;
@@ -195,4 +195,11 @@ pub fn first_line(sheet: &[u8], number: usize) -> Result<(Line<'_>, &[u8]), Shee
         },
         &sheet[sheet.len()..],
     ))
+}
+
+// A text is read as a lease exactly if it is that lease written out.
+pub fn forms_are_exact() -> u8
+    ensures { λ _. ⌜ FormExact ⌝ }
+{
+    0
 }

@@ -5,13 +5,14 @@ ghost use mathlib.Core.Path.{_≡_};
 ghost use mathlib.Core.Bool.{true, false, cond};
 ghost use Prim.Native.Nat.{ℕ, _+_, _-_, _<_, _≤_};
 ghost use mathlib.Core.List.{List};
-ghost use lib.ListN.{take, drop};
-ghost use Rattle.std.specs.Results.{Cases};
+ghost use lib.ListN.{length};
+ghost use Rattle.std.specs.Results.{Cases, isOk};
 ghost use Rattle.std.specs.declared.option.Option.the-variants.{Some, None};
 ghost use Rattle.std.specs.declared.result.Result.the-variants.{Ok, Err};
 ghost use Rattle.calendar.specs.Entries.{entriesOf};
-ghost use Rattle.numbers.specs.Range.{inRange};
 ghost use Rattle.sheet.specs.Groups.{claimOf, groupOf, lineOf};
+ghost use Rattle.form.specs.Lease.{Lease};
+ghost use Rattle.sheet.specs.Laws.{Gives, Lawful, Refused, WritesOut, sheetText};
 ghost use Rattle.sheet.specs.Verdict.{claimed, claimsOf, fits, give, leased, lineForm, named, refused, used, verdict, weighed};
 use calendar::Calendar;
 use form::Group;
@@ -138,8 +139,8 @@ fn lease(draft: &mut Calendar, line: Line<'_>) -> Result<(), SheetRefusal>
     weigh(line.text.line, known, claims)
 }
 
-// Reads a sheet into a calendar, in place of all that it held; a refused sheet leaves it as it was.
-pub fn read(sheet: &[u8], calendar: &mut Calendar) -> Result<(), SheetRefusal>
+// Reads a sheet line by line into a draft, which replaces the calendar at the end.
+fn read_lines(sheet: &[u8], calendar: &mut Calendar) -> Result<(), SheetRefusal>
     ensures { λ r. ⌜ Cases r (λ _. verdict (now (sheet .entry)) ≡ Ok (entriesOf (now (calendar .exit)))) (λ e. (verdict (now (sheet .entry)) ≡ Err e) × (now (calendar .exit) ≡ now (calendar .entry))) ⌝ }
 {
     if sheet.len() > LONGEST {
@@ -160,4 +161,13 @@ pub fn read(sheet: &[u8], calendar: &mut Calendar) -> Result<(), SheetRefusal>
     }
     *calendar = draft;
     Ok(())
+}
+
+// Reads a sheet into a calendar, in place of all that it held; a refused sheet leaves it as it was.
+pub fn read(sheet: &[u8], calendar: &mut Calendar) -> Result<(), SheetRefusal>
+    ensures equals { λ r. ⌜ Cases r (λ _. verdict (now (sheet .entry)) ≡ Ok (entriesOf (now (calendar .exit)))) (λ e. (verdict (now (sheet .entry)) ≡ Err e) × (now (calendar .exit) ≡ now (calendar .entry))) ⌝ }
+    ensures only { λ r. ⌜ Cases r (λ _. WritesOut (now (sheet .entry)) (entriesOf (now (calendar .exit)))) (λ e. Refused (now (sheet .entry)) e) ⌝ }
+    ensures every { λ r. ⌜ ((ls : List Lease) → Lawful ls → now (sheet .entry) ≡ sheetText ls → length (now (sheet .entry)) ≤ 16384 → (isOk r ≡ true) × Gives ls (entriesOf (now (calendar .exit)))) ⌝ }
+{
+    read_lines(sheet, calendar)
 }

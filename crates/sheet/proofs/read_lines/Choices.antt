@@ -4,7 +4,7 @@ use lib.ListN.{length, replicate}
 use Rattle.calendar.specs.Entries.{entriesOf}
 use Rattle.form.specs.Marks.{lines}
 use Rattle.sheet.specs.Verdict.{judged}
-use Rattle.sheet.proofs.read.Given as given
+use Rattle.sheet.proofs.read_lines.Given as given
 
 abbrev pub Inv-loop-rest : given.InvT-loop-rest
 Inv-loop-rest l =

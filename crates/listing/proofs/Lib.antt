@@ -1,0 +1,4 @@
+pub mod Computed
+pub mod Growth
+pub mod Laid
+pub mod Lengths
