@@ -1,0 +1,4 @@
+pub mod Syncs
+pub mod Fixed
+pub mod Classes
+pub mod Whole

@@ -16,6 +16,16 @@ pub enum Refusal {
     SlotTwice,
     // a client is named on two lines
     ClientTwice,
+    // a packet's length is outside 64 to 2,000, or lengths do not add up to the bytes
+    PacketLength,
+    // fewer than two free places at an outlet, or none at a queue
+    NoFreePlace,
+    // a message's kind or value bytes are wrong
+    MessageInvalid,
+    // no packet stands at the front of the blocks
+    NoPacket,
+    // the output is too short
+    OutputTooShort,
 }
 
 // The level at which a sheet is refused: its marks, the form of a line, or the calendar that it gives.
@@ -44,6 +54,11 @@ impl Refusal {
             Refusal::OutOfRange => 3,
             Refusal::SlotTwice => 4,
             Refusal::ClientTwice => 5,
+            Refusal::PacketLength => 6,
+            Refusal::NoFreePlace => 7,
+            Refusal::MessageInvalid => 10,
+            Refusal::NoPacket => 11,
+            Refusal::OutputTooShort => 12,
         }
     }
 }

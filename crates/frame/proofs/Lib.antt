@@ -1,0 +1,4 @@
+pub mod Carried
+pub mod Storing
+pub mod Frames
+pub mod Starts

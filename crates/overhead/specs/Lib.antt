@@ -1,0 +1,3 @@
+pub mod Format
+pub mod Entry
+pub mod Laws

@@ -1,0 +1,4 @@
+pub mod Blocks
+mod Carried
+mod Copies
+mod Laws
