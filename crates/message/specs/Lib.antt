@@ -1,0 +1,4 @@
+pub mod Kinds
+pub mod Blocks
+pub mod Values
+pub mod Written
