@@ -1,12 +1,12 @@
 -- A message in memory with one more block.
-use mathlib.Core.Path.{_≡_, refl, sym, ap, ap₂, _∙_}
+use mathlib.Core.Path.{_≡_, sym, ap, ap₂, _∙_}
 use mathlib.Core.Bool.{Bool, true, false, cond}
 use mathlib.Core.List.{List, [], _∷_, _++_, append-assoc}
-use Prim.Native.Nat.{ℕ, zero, suc, _+_, _-_, _*_, _≤_, _<_}
+use Prim.Native.Nat.{ℕ, _+_, _-_, _*_, _≤_, _<_}
 use native.Mathlib.Omega.{arith}
 use lib.Dec.{eqb}
 use lib.ListN.{length, take, set}
-use Rattle.std.proofs.shelf.Lists.{take-more-set, take-set, length-set, length-append, length-take-le}
+use Rattle.std.proofs.shelf.Lists.{take-more-set, length-set, length-append, length-take-le}
 use Rattle.std.proofs.shelf.Ways.{tells}
 use Rattle.std.proofs.shelf.Tests.{eq-eqb, ne-eqb}
 use Rattle.crc.specs.Bits.{bits, field}
@@ -19,7 +19,7 @@ use Rattle.message.specs.Kinds.{blocksOf}
 use Rattle.message.proofs.Tails.{take-bits}
 use Rattle.assembly.specs.declared.unfinished.Unfinished.{Unfinished}
 use Rattle.assembly.specs.declared.Message.{Message}
-use Rattle.assembly.specs.Content.{Content, Outcome, contentOf, wholeOf, broken, going, whole, wrong}
+use Rattle.assembly.specs.Content.{contentOf, wholeOf, broken, going, whole, wrong}
 use Rattle.assembly.specs.Next.{extended, followed, judged, tested}
 
 pub two-set : (vs : List ℕ) (b x y : ℕ) → 2 * b + 1 < length vs → take (2 * (b + 1)) (set (set vs (2 * b) x) (2 * b + 1) y) ≡ take (2 * b) vs ++ x ∷ y ∷ []

@@ -7,7 +7,7 @@ ghost use mathlib.Core.Path.{_≡_};
 ghost use Rattle.std.specs.Options.{mapped};
 ghost use Rattle.std.specs.declared.option.Option.the-variants.{Some};
 ghost use Rattle.message.specs.declared.Kind.the-variants.{Basic};
-ghost use Rattle.assembly.specs.Content.{contentOf, outcomeOf, wholeOf, Content};
+ghost use Rattle.assembly.specs.Content.{contentOf, outcomeOf, wholeOf};
 ghost use Rattle.assembly.specs.Next.{began, continued, extended, nextOf, tested};
 
 mod unfinished;

@@ -1,20 +1,18 @@
 -- One collection of a collector at a time: what a block does to it depends on its own blocks alone.
-use mathlib.Core.Path.{_≡_, refl, sym, ap, ap₂, _∙_}
-use mathlib.Core.Bool.{Bool, true, false, not, cond, _&&_}
+use mathlib.Core.Path.{_≡_, refl, ap, _∙_}
+use mathlib.Core.Bool.{Bool, true, false, cond}
 use mathlib.Core.List.{List, [], _∷_, _++_}
-use Prim.Native.Nat.{ℕ, _+_, _*_}
-use lib.ListN.{length, set}
+use Prim.Native.Nat.{_+_}
 use Rattle.std.specs.declared.option.Option.{Option}
 use Rattle.std.specs.declared.option.Option.the-variants.{Some, None}
 use Rattle.std.proofs.shelf.Lists.{length-set}
-use Rattle.std.proofs.shelf.Tests.{cases-bool}
 use Rattle.message.specs.declared.Kind.{Kind}
 use Rattle.message.specs.declared.Kind.the-variants.{Basic, Aps, Cv, OneDm, TwoDmm, TwoDmr, Cs}
 use Rattle.message.specs.declared.MessageBlock.{MessageBlock}
 use Rattle.assembly.specs.Content.{Content, Outcome, broken, going, wrong, whole}
 use Rattle.collector.specs.State.{State, placeOf}
 use Rattle.assembly.specs.Next.{nextOf, sameKind}
-use Rattle.collector.specs.Step.{after, afterKind, afterPart, afterBasic, collectionOf, held, isAps, kept, oneMark, basicContent, same, settled, unasked}
+use Rattle.collector.specs.Step.{after, afterKind, afterPart, afterBasic, collectionOf, isAps, kept, oneMark, basicContent, same, settled, unasked}
 use Rattle.collector.specs.Laws.{Call, gave, asked, goesKind, goesTo, own, run, Sized}
 
 abbrev pub coll : Bool → State → Option Content

@@ -2,22 +2,22 @@
 use mathlib.Core.Path.{_≡_, refl, sym, ap, ap₂, _∙_}
 use mathlib.Core.Bool.{Bool, true, false, cond}
 use mathlib.Core.List.{List, [], _∷_, map}
-use Prim.Native.Nat.{ℕ, zero, suc, _*_, _≤_}
+use Prim.Native.Nat.{ℕ, zero, suc, _*_}
 use native.Mathlib.Omega.{arith}
-use lib.ListN.{length, take, set, getD}
+use lib.ListN.{take, set, getD}
 use Rattle.std.specs.Options.{mapped}
 use Rattle.std.specs.declared.option.Option.{Option}
 use Rattle.std.specs.declared.option.Option.the-variants.{Some, None}
 use Rattle.std.proofs.shelf.Lists.{map-set, take-take}
 use Rattle.message.specs.declared.Kind.{Kind}
 use Rattle.message.specs.declared.Kind.the-variants.{Basic, Aps, Cv, OneDm, TwoDmm, TwoDmr, Cs}
-use Rattle.message.specs.Kinds.{blocksOf, codeOf, kindOf}
+use Rattle.message.specs.Kinds.{blocksOf}
 use Rattle.collector.specs.declared.Collector.{Collector}
 use Rattle.assembly.specs.declared.Message.{Message}
 use Rattle.assembly.specs.Content.{Content, wholeOf}
 use Rattle.collector.specs.State.{State, stateOf, placeOf}
 use Rattle.assembly.specs.Next.{sameKind}
-use Rattle.collector.specs.Step.{kept, lastOf}
+use Rattle.collector.specs.Step.{kept}
 
 pub getD-mapped : {X Y : Type 0} (f : X → Y) (xs : List (Option X)) (i : ℕ) → mapped f (getD xs i None) ≡ getD (map (mapped f) xs) i None
 getD-mapped f [] i = refl

@@ -2,15 +2,14 @@
 use mathlib.Core.Path.{_≡_, refl, sym, ap, ap₂, subst, _∙_}
 use mathlib.Core.Bool.{Bool, true, false, not, cond, _&&_}
 use mathlib.Core.List.{List, [], _∷_, _++_, append-assoc}
-use mathlib.Core.Logic.{⊎-elim}
-use Prim.Native.Nat.{ℕ, zero, suc, _+_, _-_, _*_, _≤_, _<_}
+use Prim.Native.Nat.{ℕ, _+_, _-_, _*_, _≤_}
 use native.Mathlib.Omega.{arith}
 use lib.Dec.{eqb}
 use lib.ListN.{length}
 use Rattle.std.specs.declared.option.Option.{Option}
 use Rattle.std.specs.declared.option.Option.the-variants.{Some, None}
 use Rattle.std.proofs.shelf.Lists.{append-nil, length-append}
-use Rattle.std.proofs.shelf.Tests.{eqb-true, eqb-false, eq-eqb, ne-eqb}
+use Rattle.std.proofs.shelf.Tests.{eqb-true, ne-eqb}
 use Rattle.crc.specs.Bits.{bits}
 use Rattle.message.specs.declared.Kind.{Kind}
 use Rattle.message.specs.declared.Kind.the-variants.{Basic, Aps, Cv, OneDm, TwoDmm, TwoDmr, Cs}
@@ -20,16 +19,15 @@ use Rattle.message.specs.Blocks.{said}
 use Rattle.message.specs.Values.{crc12}
 use Rattle.message.specs.Written.{parts}
 use Rattle.collector.specs.declared.Report.{Report}
-use Rattle.collector.specs.declared.Found.{Found}
-use Rattle.collector.specs.declared.Found.the-variants.{Nothing, Whole, WrongRemainder, UnknownKind}
+use Rattle.collector.specs.declared.Found.the-variants.{Nothing, Whole}
 use Rattle.assembly.specs.Content.{Content, Outcome, broken, going, wrong, whole}
 use Rattle.collector.specs.State.{State}
-use Rattle.assembly.specs.Next.{continued, extended, followed, judged, nextOf, sameKind, tested}
-use Rattle.collector.specs.Step.{after, afterKind, foundOf, isAps, lastOf, newState, oneMark, reportBasic, reportKind, reportOf, reportPart, same, unasked}
-use Rattle.collector.specs.Laws.{Call, gave, asked, goesKind, goesTo, own, run, Sized, Arrives, Completes, FoundWhole, Laws}
+use Rattle.assembly.specs.Next.{continued, extended, followed, judged, nextOf, sameKind}
+use Rattle.collector.specs.Step.{after, foundOf, isAps, newState, oneMark, reportBasic, reportKind, reportOf, reportPart, same, unasked}
+use Rattle.collector.specs.Laws.{Call, gave, asked, goesKind, goesTo, own, run, Arrives, Completes, FoundWhole, Laws}
 use Rattle.assembly.proofs.Extends.{last-test}
-use Rattle.collector.proofs.Collections.{coll, left, advance, advanceKind, advance-other, coll-kind, own-push, own-asked, run-append, sized-run}
-use Rattle.collector.proofs.Wholes.{partAt, content, parts-push, not-basic, change-found, whole-found, written-found}
+use Rattle.collector.proofs.Collections.{coll, left, advance, advanceKind, advance-other, coll-kind, own-push, own-asked, sized-run}
+use Rattle.collector.proofs.Wholes.{partAt, content, parts-push, change-found, whole-found, written-found}
 
 -- kinds with one code are one kind
 pub one-kind : (a b : Kind) → sameKind a b ≡ true → a ≡ b

@@ -1,14 +1,14 @@
 -- The value bytes of a response.
-use mathlib.Core.Path.{_≡_, refl, sym, ap, ap₂, _∙_}
-use mathlib.Core.Bool.{Bool, true, false, _&&_}
+use mathlib.Core.Path.{_≡_, sym, ap, ap₂, _∙_}
+use mathlib.Core.Bool.{Bool, _&&_}
 use mathlib.Core.List.{List, [], _∷_, _++_, append-assoc}
 use Prim.Native.Nat.{ℕ, _+_, _≤_}
 use native.Mathlib.Omega.{arith}
 use lib.Dec.{eqb, ltb}
-use lib.ListN.{length, take, drop, replicate, getD}
+use lib.ListN.{length, drop, replicate, getD}
 use borrow.Rule.Slice.PartMut.{putMid}
-use Rattle.std.proofs.shelf.Lists.{length-append, take-at, drop-at, getD-append-right, getD-append-add}
-use Rattle.std.proofs.shelf.Tests.{eq-eqb, and-from, lt-ltb}
+use Rattle.std.proofs.shelf.Lists.{length-append, take-at, drop-at, getD-append-right}
+use Rattle.std.proofs.shelf.Tests.{eq-eqb}
 use Rattle.message.specs.declared.Kind.the-variants.{TwoDmr}
 use Rattle.message.specs.Values.{lawful}
 use Rattle.collector.specs.Reply.{replyValues, RepliesLawful}

@@ -1,16 +1,15 @@
 -- A message whose blocks come in a row for its collection is found whole.
-use mathlib.Core.Path.{_≡_, refl, sym, ap, ap₂, _∙_}
-use mathlib.Core.Bool.{Bool, true, false, not, cond, _&&_}
+use mathlib.Core.Path.{_≡_, refl, sym, ap, _∙_}
+use mathlib.Core.Bool.{Bool, true, false, not, cond}
 use mathlib.Core.List.{List, [], _∷_, _++_, append-assoc}
-use mathlib.Core.Logic.{⊎-elim}
 use Prim.Native.Nat.{ℕ, zero, suc, _+_, _-_, _*_, _≤_, _<_}
 use native.Mathlib.Omega.{arith}
 use lib.Dec.{eqb}
-use lib.ListN.{length, take, set, getD}
+use lib.ListN.{length, take, getD}
 use Rattle.std.specs.declared.option.Option.{Option}
 use Rattle.std.specs.declared.option.Option.the-variants.{Some, None}
 use Rattle.std.proofs.shelf.Lists.{nil-from-length, length-take-le, take-all, same-from-push, getD-set-same}
-use Rattle.std.proofs.shelf.Tests.{and-parts, not-true, eqb-true, eqb-false, eq-eqb, ne-eqb, cases-lt}
+use Rattle.std.proofs.shelf.Tests.{and-parts, not-true, eqb-true, eqb-false, eq-eqb, ne-eqb}
 use Rattle.crc.specs.Bits.{bits}
 use Rattle.crc.specs.Laws.{weight, xors}
 use Rattle.crc.proofs.Detect.{detects}
@@ -26,12 +25,10 @@ use Rattle.message.specs.Written.{messageBlocks, parts, reads}
 use Rattle.message.proofs.Laws.{laws}
 use Rattle.message.proofs.Pairs.{paired-push, take-two}
 use Rattle.message.proofs.Writes.{lawful-length, some-blocks}
-use Rattle.collector.specs.declared.Report.{Report}
-use Rattle.collector.specs.declared.Found.{Found}
 use Rattle.collector.specs.declared.Found.the-variants.{Whole, WrongRemainder}
-use Rattle.assembly.specs.Content.{Content, Outcome, broken, going, wrong, whole}
+use Rattle.assembly.specs.Content.{Content, Outcome, broken, wrong, whole}
 use Rattle.collector.specs.State.{State, placeOf}
-use Rattle.assembly.specs.Next.{began, continued, extended, judged, nextOf, sameKind, tested}
+use Rattle.assembly.specs.Next.{continued, extended, judged, nextOf, sameKind, tested}
 use Rattle.collector.specs.Step.{after, afterKind, afterPart, afterBasic, foundOf, isAps, kept, lastOf, reportBasic, reportKind, reportOf, reportPart, settled}
 use Rattle.collector.specs.Laws.{Call, gave, goesKind, goesTo, own, run, Sized, Arrives, Completes, FoundWhole}
 use Rattle.assembly.proofs.Extends.{few-blocks, last-test}

@@ -1,10 +1,9 @@
 -- The faults of message blocks: their numbers, and those that a report names.
 use Prim.Native.Nat.{ℕ}
-use mathlib.Core.Bool.{Bool, true, false, cond}
+use mathlib.Core.Bool.{cond}
 use mathlib.Core.List.{List, [], _∷_}
 use Rattle.std.specs.declared.option.Option.{Option}
 use Rattle.std.specs.declared.option.Option.the-variants.{Some, None}
-use Rattle.message.specs.declared.Kind.{Kind}
 use Rattle.collector.specs.declared.Fault.{Fault}
 use Rattle.collector.specs.declared.Fault.the-variants.{Remainder, UnknownKind as UnknownFault, Sequence}
 use Rattle.collector.specs.declared.Found.{Found}

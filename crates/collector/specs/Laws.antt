@@ -15,7 +15,6 @@ use Rattle.message.specs.Kinds.{blocksOf}
 use Rattle.message.specs.Values.{crc12, filled, lawful}
 use Rattle.message.specs.Written.{messageBlocks, parts, reads}
 use Rattle.collector.specs.declared.Found.the-variants.{Whole, WrongRemainder}
-use Rattle.assembly.specs.Content.{Content}
 use Rattle.assembly.specs.Next.{sameKind}
 use Rattle.collector.specs.State.{State}
 use Rattle.collector.specs.Step.{after, isAps, lastOf, newState, reportOf, same, unasked}

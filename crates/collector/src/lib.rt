@@ -3,10 +3,10 @@
 // Main promise: `take` does and reports exactly what the definitions `after` and `reportOf` say, whose laws are in `Laws`.
 ghost use mathlib.Core.Path.{_≡_};
 ghost use Rattle.std.specs.Options.{mapped};
-ghost use Rattle.collector.specs.State.{placeOf, stateOf};
 ghost use Rattle.assembly.specs.Content.{contentOf, wholeOf};
 ghost use Rattle.collector.specs.Faults.{faultNumber, faultsOf};
 ghost use Rattle.collector.specs.Laws.{Laws};
+ghost use Rattle.collector.specs.State.{placeOf, stateOf};
 ghost use Rattle.collector.specs.Step.{after, afterBasic, afterPart, collectionOf, held, kept as keptAfter, lastOf, newState, reportBasic, reportOf, reportPart, unasked};
 
 mod question;

@@ -1,8 +1,6 @@
 // A question of two-way delay that a collector has handed out.
 // It can be neither let fall nor used twice: a value of this type has to be answered or declined.
-ghost use lib.ListN.{length};
-ghost use mathlib.Core.Bool.{true};
-ghost use mathlib.Core.List.{List, _++_};
+ghost use mathlib.Core.List.{List};
 ghost use mathlib.Core.Path.{_≡_};
 ghost use Prim.Native.Nat.{ℕ};
 ghost use Rattle.std.specs.Results.{Cases};

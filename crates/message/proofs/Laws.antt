@@ -1,11 +1,11 @@
 -- The laws of what is written.
-use mathlib.Core.Path.{_≡_, refl, sym, ap, ap₂, _∙_}
-use mathlib.Core.List.{List, [], _∷_, _++_}
+use mathlib.Core.Path.{_≡_, refl, ap, ap₂, _∙_}
+use mathlib.Core.List.{List, _++_}
 use mathlib.Core.Bool.{Bool}
-use Prim.Native.Nat.{ℕ, zero, suc, _+_, _-_, _*_, _≤_, _<_}
+use Prim.Native.Nat.{ℕ, zero, suc, _+_, _-_, _*_, _≤_}
 use native.Mathlib.Omega.{arith}
 use lib.ListN.{length, take, drop}
-use Rattle.std.proofs.shelf.Lists.{length-append, length-take-le, length-drop, take-at}
+use Rattle.std.proofs.shelf.Lists.{length-append, length-take-le, take-at}
 use Rattle.crc.specs.Bits.{bits, field, highFirst, packed}
 use Rattle.crc.proofs.Laws.{appended}
 use Rattle.crc.proofs.Places.{length-bits}

@@ -1,17 +1,17 @@
 -- The last two value bytes: four bits that are the sender's, then the remainder, its highest coefficient first.
 use mathlib.Core.Path.{_≡_, refl, sym, ap, ap₂, _∙_}
 use mathlib.Core.List.{List, [], _∷_, _++_, append-assoc}
-use mathlib.Core.Bool.{Bool, true, false}
+use mathlib.Core.Bool.{Bool}
 use Prim.Native.Nat.{ℕ, zero, suc, _+_, _-_, _*_, _/_, _%_, _^_, _≤_, _<_}
-use native.Mathlib.Nat.{mod-eq-of-lt, zero-add, div-one, zero-div}
+use native.Mathlib.Nat.{zero-add, div-one}
 use native.Mathlib.Omega.{arith}
 use lib.ListN.{length, take, drop, getD}
 use lib.Pow.{shr-shr}
 use Rattle.std.specs.Numbers.{reversedOnto}
-use Rattle.std.proofs.shelf.Lists.{append-nil, drop-more, length-append, take-append-drop}
+use Rattle.std.proofs.shelf.Lists.{append-nil, drop-more, length-append}
 use Rattle.crc.specs.Bits.{lowFirst, highFirst, bits, field, packed}
 use Rattle.crc.proofs.Digits.{low-join, low-mod, low-reversed, length-high}
-use Rattle.crc.proofs.Places.{numbered, length-low, length-bits}
+use Rattle.crc.proofs.Places.{numbered, length-low}
 use Rattle.message.specs.Values.{covered, crc12, filled}
 
 -- digits turned round, in two parts

@@ -1,8 +1,8 @@
 -- The writer's answer and output, case by case; and its loop.
-use mathlib.Core.Path.{_≡_, refl, sym, ap, ap₂, _∙_}
-use mathlib.Core.Bool.{Bool, true, false, cond, _&&_}
+use mathlib.Core.Path.{_≡_, sym, ap, ap₂, _∙_}
+use mathlib.Core.Bool.{Bool, true, false, cond}
 use mathlib.Core.List.{List, [], _∷_, _++_}
-use Prim.Native.Nat.{ℕ, zero, suc, _+_, _-_, _*_, _≤_, _<_}
+use Prim.Native.Nat.{ℕ, _+_, _-_, _*_, _≤_, _<_}
 use native.Mathlib.Omega.{arith}
 use lib.Dec.{eqb, leb}
 use lib.ListN.{length, take, drop, getD, set}
@@ -17,7 +17,7 @@ use Rattle.message.specs.declared.Kind.{Kind}
 use Rattle.message.specs.declared.Kind.the-variants.{Basic, Aps, Cv, OneDm, TwoDmm, TwoDmr, Cs}
 use Rattle.message.specs.Kinds.{blocksOf}
 use Rattle.message.specs.Blocks.{messageBlock}
-use Rattle.message.specs.Values.{filled, lawful, isBasic, freeBelow}
+use Rattle.message.specs.Values.{filled, lawful}
 use Rattle.message.specs.Written.{answer, written, blockAt, messageBlocks}
 use Rattle.message.proofs.Pairs.{put-pair, take-two}
 

@@ -1,7 +1,7 @@
 -- A message block: control, 4B, a head byte, two value bytes, 0C and three zeros.
 -- The head byte holds the start mark in bit 0, the end mark in bit 1 and the kind's code in bits 2 to 7.
 use Prim.Native.Nat.{ℕ, _+_, _*_, _/_, _%_}
-use mathlib.Core.Bool.{Bool, true, false, cond, _&&_}
+use mathlib.Core.Bool.{Bool, cond, _&&_}
 use mathlib.Core.List.{List, [], _∷_}
 use lib.Dec.{eqb}
 use lib.ListN.{getD}

@@ -8,7 +8,7 @@ ghost use mathlib.Core.List.{_++_};
 ghost use mathlib.Core.Path.{_≡_};
 ghost use Rattle.message.specs.Blocks.{messageBlock, readOf};
 ghost use Rattle.message.specs.Kinds.{blocksOf, formatOf, kindOf};
-ghost use Rattle.message.specs.Values.{filled, freeBelow, lawful as lawfulValues};
+ghost use Rattle.message.specs.Values.{filled, lawful as lawfulValues};
 ghost use Rattle.message.specs.Written.{answer, answerFor, basicBlock, messageBlocks, written, writtenFor, Laws};
 use block::Block;
 use block::Sync;

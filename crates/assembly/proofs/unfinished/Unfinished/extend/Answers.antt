@@ -1,12 +1,12 @@
-use mathlib.Core.Path.{_≡_, sym, ap, _∙_}
+use mathlib.Core.Path.{_≡_, ap, _∙_}
 use mathlib.Core.List.{List}
-use Prim.Native.Nat.{ℕ, _+_, _*_}
+use Prim.Native.Nat.{ℕ, _+_}
 use native.Mathlib.Omega.{arith}
 use borrow.Author.Needs.{needs}
 use lib.ListN.{length}
 use Rattle.message.specs.declared.Format.{Format}
 use Rattle.message.specs.Kinds.{blocksOf}
-use Rattle.assembly.specs.Content.{Content, Outcome, going}
+use Rattle.assembly.specs.Content.{Outcome, going}
 use Rattle.assembly.specs.Next.{tested}
 use Rattle.assembly.proofs.Extends.{at-end, not-yet, too-early, missing, stored}
 use Rattle.assembly.proofs.unfinished.Unfinished.extend.Needs as need
