@@ -22,19 +22,21 @@ use Rattle.packet_text.specs.Hex.{hexBytes, hexText, isHex}
 abbrev pub lineText : ℕ → List ℕ → List ℕ
 lineText client bytes = decimal client ++ (codes " " ++ (hexText bytes ++ codes "\n"))
 
--- a text up to its first newline, which is included, and what follows it
+-- a cut with one more byte in front
 abbrev pub longer : ℕ → List ℕ × List ℕ → List ℕ × List ℕ
 longer c cut = (c ∷ cut .0, cut .1)
 
+-- a text up to its first newline, which is included, and what follows it
 abbrev pub cutLine : List ℕ → List ℕ × List ℕ
 cutLine [] = ([], [])
 cutLine (c ∷ cs) = cond (eqb c 10) (c ∷ [], cs) (longer c (cutLine cs))
 
--- the text in front of the newline that ends it
+-- a text, if there is one, with one more byte in front
 abbrev pub prefixed : ℕ → Option (List ℕ) → Option (List ℕ)
 prefixed x None = None
 prefixed x (Some xs) = Some (x ∷ xs)
 
+-- the text in front of the newline that ends it, if one does
 abbrev pub ended : List ℕ → Option (List ℕ)
 ended [] = None
 ended (x ∷ []) = cond (eqb x 10) (Some []) None

@@ -29,7 +29,7 @@ const BYTES: usize = INPUT / 2;
 // Places of the tape.
 const PLACES: usize = 64;
 
-// Places that a packet's blocks take at most.
+// Places that a packet's blocks take at most: 253 blocks and the idle that makes them even.
 const BLOCKS: usize = 254;
 
 // Bytes of the longest line that is printed, of a packet of 2,000 bytes.
