@@ -1,6 +1,8 @@
 // A path message as it is put together from its blocks, one after the other.
 // The end mark must stand on the last block of the kind and on no other, and the whole message must leave the remainder 0.
 // Main promise: `outcome` answers exactly what the definition `next_of` makes of the message so far and the block.
+#![tactic(auto)]
+
 ghost use Rattle.std.specs.Prelude.{◌≡◌, [], ◌∷◌, take, Some};
 ghost use Rattle.std.specs.Option.{option_map};
 ghost use Rattle.message.specs.declared.Kind.TheVariants.{Basic};

@@ -1,6 +1,8 @@
 // A bank: a store of blocks in lent memory that is cut into areas of equal width, one for each of the first clients.
 // Each area is a ring, so that a call costs the same however full the bank is; a removed block frees its place.
 // Main promise: the bank is an inlet and an outlet, and the list it holds for a client is the list that waits for it.
+#![tactic(auto)]
+
 ghost use Rattle.std.specs.Prelude.{◌≡◌, length, MatchOption};
 ghost use Rattle.port.specs.Model.{Put, empty_with, first_of, taken};
 ghost use Rattle.bank.specs.Ring.{place_at};

@@ -1,6 +1,8 @@
 // Measures packing and unpacking: ten thousand payloads each way, each a little other than the one before.
 // Standard output has the number of blocks moved and a checksum, standard error the nanoseconds a block took.
 // Main promise: the blocks counted are those that were packed and unpacked, and the payload summed up is that of the pairs.
+#![tactic(auto)]
+
 ghost use Rattle.std.specs.Prelude.{◌≡◌, ◌*◌, fold};
 ghost use Rattle.bench.specs.Sums.{summed};
 ghost use Rattle.payload.specs.Payloads.{pairs_of, payload_of};

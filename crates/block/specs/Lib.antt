@@ -1,3 +1,4 @@
+pub mod Same
 pub mod Syncs
 pub mod Fixed
 pub mod Classes

@@ -1,13 +1,15 @@
 // 66-bit blocks as a 64B/66B coded line carries them: two sync bits and eight bytes.
 // A block's class is told by its sync bits and its type, which is byte 0; only an idle is told by all its bytes.
 // Main promise: `class` answers exactly the class that the definition `class_of` gives the block.
+#![tactic(auto)]
+
 ghost use Rattle.std.specs.Prelude.{◌≡◌, ◌%◌, Decides};
 ghost use Rattle.block.specs.Classes.{class_of, control_class, end_class, is_end, is_lawful, is_start};
 ghost use Rattle.block.specs.Fixed.{error_block, idle_block, start_block};
+ghost use Rattle.block.specs.Same.{is_same};
 ghost use Rattle.block.specs.Syncs.{FirstBitLowest, sync_number};
 ghost use Rattle.std.specs.Cmp.Rules.{comparing};
 ghost use Rattle.std.proofs.Common.{rules};
-ghost use Rattle.std.specs.Cmp as Keys;
 
 // The two sync bits, named by what they say; the first bit sent stands first.
 #[repr(u8)]
@@ -30,11 +32,14 @@ pub struct Block {
 }
 
 impl PartialEq for Block {
-    ghost equals = { λ a b r. Decides r (a ≡ b) };
+    ghost eq = { is_same };
 
-    ghost laws = { Keys.partial_equiv_from_equiv (Prim.search (comparing, rules)) };
+    ghost laws = { Prim.search (comparing, rules) };
 
-    fn eq(&self, other: &Block) -> bool {
+    fn eq(&self, other: &Block) -> bool
+        ensures eq { result ≡ is_same self.now other.now }
+        ensures exact { Decides result (self.now ≡ other.now) }
+    {
         self.sync == other.sync && self.bytes == other.bytes
     }
 }

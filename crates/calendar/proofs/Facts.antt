@@ -1,5 +1,6 @@
 -- What holds of every calendar: it has 480 entries, and each is a client number or 0.
-use Rattle.std.proofs.Common.{◌≡◌, ℕ, zero, suc, ◌+◌, ◌<◌, ◌≤◌, Bool, false, List, [], ◌∷◌, map, length, get_or, drop, Some, None, Decides, Option, ap, ◌∙◌, arith, rules, MatchOption}
+use Rattle.std.proofs.Common.{◌≡◌, ℕ, zero, suc, ◌+◌, ◌<◌, ◌≤◌, Bool, false, List, [], ◌∷◌, map, length, get_or, drop, Some, None, Decides, Option, ap, ◌∙◌, arith, rules}
+use Rattle.std.specs.Option.{option_eq}
 use Rattle.std.proofs.lemmas.List.{length-map, get_or-map, drop_more}
 use Rattle.numbers.specs.declared.ClientNumber.{ClientNumber}
 use Rattle.numbers.specs.contracts.ClientNumberPartialEq.TheImpl.{ghosts}
@@ -24,7 +25,7 @@ entries_high c k = all_high c.entries k
 -- `==` of an entry and a client compares their numbers
 pub same_entry :
     (o : Option ClientNumber) (c : ClientNumber) (r : Bool) →
-    MatchOption o (r ≡ false) (λ x. MatchOption (Some c) (r ≡ false) (λ y. r ≡ ghosts.eq x y)) → Decides r (entry_of o ≡ c.number)
+    r ≡ option_eq ghosts.eq o (Some c) → Decides r (entry_of o ≡ c.number)
 same_entry (Some x) c r h = search rules
 same_entry None c r h = search rules
 

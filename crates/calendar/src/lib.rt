@@ -1,6 +1,8 @@
 // A calendar: for each of the 480 slots of a frame the client that it is leased to, or none.
 // A slot is named by a SlotNumber and holds a ClientNumber, so no slot and no entry is out of range.
 // Main promise: `assign` changes one entry and no other; `share` counts a client's slots and finds its lowest one.
+#![tactic(auto)]
+
 ghost use Rattle.std.specs.Prelude.{◌≡◌, length};
 
 mod methods;

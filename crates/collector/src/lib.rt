@@ -1,6 +1,8 @@
 // Collects path messages from their blocks as they come, protection messages apart from the low priority ones.
 // A block is reported as what it completes or breaks: a whole message, a wrong remainder (P1), an unknown kind (P2), a broken sequence (P3).
 // Main promise: `take` does and reports exactly what the definitions `after` and `report_of` say, whose laws are in `Laws`.
+#![tactic(auto)]
+
 ghost use Rattle.std.specs.Prelude.{◌≡◌};
 ghost use Rattle.std.specs.Option.{option_map};
 ghost use Rattle.assembly.specs.Content.{content_of, whole_of};

@@ -34,7 +34,7 @@ impl Question {
         sent: [u8; 8],
         sender: &mut S,
     ) -> Result<(), (Refusal, Question)>
-        ensures taken { MatchResult result (λ _. left sender.old (reply_values self.time received sent) (Ok tt) sender.new) (λ e. (e.1 ≡ self) × left sender.old (reply_values self.time received sent) (Err e.0) sender.new) }
+        ensures taken { MatchResult result (λ _. S.left sender.old (reply_values self.time received sent) (Ok tt) sender.new) (λ e. (e.1 ≡ self) × S.left sender.old (reply_values self.time received sent) (Err e.0) sender.new) }
         ensures lawful { RepliesLawful }
     {
         match sender.leave(&reply_values(&self.time, &received, &sent)) {

@@ -1,9 +1,9 @@
 -- Changes of few bits and bursts leave a remainder: one argument over the degree, the generator and the length.
 use Rattle.std.proofs.Common.{◌≡◌, ℕ, zero, suc, ◌+◌, ◌-◌, ◌*◌, ◌/◌, ◌%◌, ◌^◌, ◌<◌, ◌≤◌, Bool, true, false, List, [], ◌∷◌, ◌++◌, length, replicate, sym, refl, ap, ◌∙◌, ap₂, add-zero, add-suc, suc-add, pow-suc, zero-add, zero-mul, div-one, arith, pow_pos}
-use native.Mathlib.Nat.{eq_of_mul-eq-mul_right}
-use lib.Bits.{bit_xor, xor_self, xor_zero_r, xor_shifted}
-use lib.Count.{ones}
-use lib.Pow.{pow-lt}
+use Rattle.std.proofs.Math.Nat.{eq_of_mul-eq-mul_right}
+use Rattle.std.specs.Int.Bits.{bit_xor, xor_self, xor_zero_r, xor_shifted}
+use Rattle.std.specs.Int.Count.{ones}
+use Rattle.std.proofs.Math.Pow.{pow-lt}
 use Rattle.crc.specs.Remainder.{step, reduce, run, remainder}
 use Rattle.crc.specs.Laws.{value, xors, weight, power, Detecting, Few, Burst, Detects}
 use Rattle.crc.proofs.Laws.{run_xor, run-++, run_parity, step_xor, step_zero, leading, shift_zero, back, value_lt, xor_over, reduce_small}

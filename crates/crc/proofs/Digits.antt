@@ -1,8 +1,8 @@
 -- Numbers written in bits, the lowest or the highest digit first: parts, zeros, numbers turned round, and reading back.
 use Rattle.std.proofs.Common.{◌≡◌, ℕ, zero, suc, ◌+◌, ◌*◌, ◌/◌, ◌%◌, ◌^◌, ◌<◌, Bool, false, eqb, List, [], ◌∷◌, ◌++◌, length, replicate, sym, refl, ap, ◌∙◌, ap₂, append_assoc, mod-lt, mul_assoc, suc-add, pow-suc, zero-add, div-one, one-add, arith, pow_pos, shr-shr}
-use native.Mathlib.Nat.{zero-div}
-use lib.Bits.{bit_xor, xor_shifted}
-use lib.Pow.{mod-pow-add}
+use Rattle.std.proofs.Math.Nat.{zero-div}
+use Rattle.std.specs.Int.Bits.{bit_xor, xor_shifted}
+use Rattle.std.proofs.lemmas.Nat.{mod-pow-add}
 use Rattle.std.specs.Int.{reverse_bits_onto}
 use Rattle.std.proofs.lemmas.List.{append-nil}
 use Rattle.crc.specs.Bits.{odd, low_first, high_first}

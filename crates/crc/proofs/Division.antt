@@ -1,7 +1,8 @@
 -- The remainder of a division of polynomials is one alone; and the laws together.
 use Rattle.std.proofs.Common.{◌≡◌, ℕ, zero, suc, ◌+◌, ◌*◌, ◌/◌, ◌%◌, ◌^◌, ◌<◌, ◌≤◌, Bool, true, false, List, [], ◌∷◌, length, sym, refl, ap, ◌∙◌, subst, ap₂, le_trans, div-lt_iff_lt-mul, one-mul, div-add-mod', arith, pow_pos, pow_mono, pow-add, shl_lt}
-use native.Mathlib.Nat.{div-eq_of_lt, mul-div-mul_right}
-use lib.Bits.{bit_xor, xor_assoc, xor_comm, xor_self, xor_shr, xor_lt}
+use Rattle.std.proofs.Math.Nat.{div-eq_of_lt, mul-div-mul_right}
+use Rattle.std.specs.Int.Bits.{bit_xor, xor_assoc, xor_self}
+use Rattle.std.proofs.lemmas.Nat.{xor_comm, xor_shr, xor_lt}
 use Rattle.crc.specs.Remainder.{scale}
 use Rattle.crc.specs.Laws.{times, Divided, xors, weight, Laws}
 use Rattle.crc.proofs.Laws.{xor4, xor_over, scale_xor, run_xor, leading, appended, only_appended, divides}

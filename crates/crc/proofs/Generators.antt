@@ -1,6 +1,6 @@
 -- The two generators: what is asked of a detecting generator, computed. The order of x is tested power by power.
 use Rattle.std.proofs.Common.{◌≡◌, ℕ, zero, suc, ◌+◌, ◌<◌, Bool, true, false, cond, T, eqb, sym, refl, ap, ◌∙◌, subst, add-zero, arith}
-use lib.Count.{ones, ones_in}
+use Rattle.std.specs.Int.Count.{ones, ones_in}
 use Rattle.crc.specs.Remainder.{step, reduce}
 use Rattle.crc.specs.Laws.{power, Detecting, Known}
 

@@ -1,11 +1,11 @@
 -- Laws of cyclic remainders, over every width and generator.
 use Rattle.std.proofs.Common.{◌≡◌, ℕ, zero, suc, ◌+◌, ◌*◌, ◌/◌, ◌%◌, ◌^◌, ◌<◌, Bool, true, false, eqb, ◌⊎◌, List, [], ◌∷◌, ◌++◌, length, replicate, sym, refl, ap, ◌∙◌, subst, ap₂, inl, inr, add-zero, mod-lt, mod-eq_of_lt, mul_assoc, mul_comm, div-lt_iff_lt-mul, one-mul, pow-suc, zero-add, zero-mul, mul-one, one-add, arith, lit<, pow_pos, pow-add, shl_lt, shr_lt}
-use native.Mathlib.Nat.{zero-div, zero-mod, mul-mod_left, eq_of_mul-eq-mul_right, div-eq_of_lt, pow-succ'}
-use Rattle.std.proofs.lemmas.Nat.{shr_high, mod_low}
-use lib.Bits.{bit_xor, xor_assoc, xor_comm, xor_self, xor_shr, xor_mod, xor_zero_r, xor_lt, xor_shifted, xor_block, shifted_even}
-use lib.Pow.{mod-pow-add, field, mod-mod-pow}
-use lib.Arith.{bin_ind}
-use lib.Count.{ones, ones_step, ones_cat}
+use Rattle.std.proofs.Math.Nat.{zero-div, zero-mod, mul-mod_left, eq_of_mul-eq-mul_right, div-eq_of_lt, pow-succ'}
+use Rattle.std.proofs.lemmas.Nat.{shr_high, mod_low, xor_comm, xor_shr, xor_mod, xor_lt, xor_block, mod-pow-add, ones_cat}
+use Rattle.std.specs.Int.Bits.{bit_xor, xor_assoc, xor_self, xor_zero_r, xor_shifted, shifted_even}
+use Rattle.std.proofs.Math.Pow.{field, mod-mod-pow}
+use Rattle.std.proofs.Math.Arith.{bin_ind}
+use Rattle.std.specs.Int.Count.{ones, ones_step}
 use Rattle.crc.specs.Bits.{odd, high_first}
 use Rattle.crc.specs.Remainder.{scale, reduce, step, run, remainder}
 use Rattle.crc.specs.Laws.{times, value, Divided, xorb, xors, weight}

@@ -1,7 +1,7 @@
 -- The code's step, and what it reads of the bytes.
 use Rattle.std.proofs.Common.{◌≡◌, ℕ, ◌+◌, ◌*◌, ◌/◌, ◌%◌, ◌^◌, ◌<◌, Bool, true, false, eqb, sym, ap, ◌∙◌, ap₂, mod-eq_of_lt, one-mul, zero-mul, arith, pow_pos, pow_mono, shr_lt}
-use Rattle.std.proofs.lemmas.Nat.{one_shl}
-use lib.Bits.{bit_and, and_mask, bit_xor, xor_zero_r, xor_lt}
+use Rattle.std.proofs.lemmas.Nat.{one_shl, and_mask, xor_lt}
+use Rattle.std.specs.Int.Bits.{bit_and, bit_xor, xor_zero_r}
 use Rattle.crc.specs.Bits.{odd}
 use Rattle.crc.specs.Remainder.{scale, reduce, step}
 use Rattle.crc.proofs.Laws.{pow_more}

@@ -1,6 +1,8 @@
 // Cyclic remainders (CRC) over a field of bits, once for every degree and generator; those of degree 7 and 12 are made here.
 // Main promise: `remainder` is the remainder that the division of the field by the generator over GF(2) leaves (`laws_hold`),
 // and between words that leave 0 no change of one, two or three bits goes unseen (`degree_seven`, `degree_twelve`).
+#![tactic(auto)]
+
 ghost use Rattle.std.specs.Prelude.{◌≡◌, ℕ, ◌/◌, ◌^◌, ◌<◌};
 ghost use Rattle.crc.specs.Bits.{field, Numbered};
 ghost use Rattle.crc.specs.Laws.{Detecting, Detects, Known, Laws};

@@ -1,6 +1,8 @@
 // The two lower levels of the sheet reader: marks (which bytes a sheet may hold, and its lines) and forms (a line as a lease).
 // A form is read piece by piece: a call answers a piece's value and the text behind it.
 // Main promise: a line is read as a lease exactly if it is that lease written out; all else is refused as a broken form.
+#![tactic(auto)]
+
 ghost use Rattle.std.specs.Prelude.{◌≡◌, ℕ, ◌+◌, ◌-◌, ◌*◌, ◌<◌, ◌≤◌, true, false, Some, None, MatchOption, MatchResult};
 ghost use Rattle.form.specs.Form.{after, leading, extended, number, opening, group, closes, FormExact};
 ghost use Rattle.form.specs.Marks.{mark_of, marked, first_line};

@@ -1,6 +1,8 @@
 // Frames: a start block, 990 data blocks and an end block, which carry seven overhead bytes and the payload.
 // Blocks are made and stored one at a time, straight from and into overhead and payload, so no frame is copied.
 // Main promise: each block is the one that the definition `frame_block` gives, and what is put together is taken apart unchanged.
+#![tactic(auto)]
+
 ghost use Rattle.std.specs.Prelude.{◌≡◌, ◌+◌, ◌*◌, ◌≤◌, [], ◌∷◌, ◌++◌, length, take, drop};
 ghost use Rattle.frame.specs.Frames.{FrameRestored, Shaped, carried_by, frame_block, frame_of, stored};
 ghost use Rattle.frame.specs.SlotStarts.{SlotStarts, SlotsBeginThere, slot_start};

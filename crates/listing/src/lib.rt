@@ -1,6 +1,8 @@
 // The text that is printed of a calendar, and of a refused lease sheet, as bytes in memory that the caller lends.
 // A line for each client that has slots, by rising client: client, slot count, first slot.
 // Main promise: the bytes written are those that the definition `listing_of`, or `refused_line`, gives; all others stay.
+#![tactic(auto)]
+
 ghost use Rattle.std.specs.Prelude.{◌+◌, ◌≤◌, ◌++◌, length, decimal};
 ghost use Rattle.calendar.specs.Entries.{entries_of};
 ghost use Rattle.listing.specs.Lines.{PlainDecimals, Wrote, line_of, listing_of, refused_line};

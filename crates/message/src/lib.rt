@@ -1,6 +1,8 @@
 // Path maintenance messages: their kinds, the blocks that carry them, and the writer that makes the blocks of a message.
 // A message is two value bytes a block; its first and last blocks are marked, and all but the basic one end in a 12-bit remainder.
 // Main promise: `write` makes exactly the blocks `message_blocks` of the values with their remainder, and `read` reads each back.
+#![tactic(auto)]
+
 ghost use Rattle.std.specs.Prelude.{◌≡◌, ◌-◌, ◌<◌, ◌≤◌, true, ◌++◌, length, take, drop, slice_index};
 ghost use Rattle.message.specs.Blocks.{message_block, read_of};
 ghost use Rattle.message.specs.Kinds.{blocks_of, format_of, kind_of};

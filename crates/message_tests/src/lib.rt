@@ -1,6 +1,8 @@
 // Examples of path messages, written and collected, as tables.
 // Expected blocks and values are the standard's test vectors for 1DM, the value for CS, and others worked by hand.
 // Main promise: none of its own; each table is run against the crates `message` and `collector`.
+#![tactic(auto)]
+
 #[cfg(test)]
 mod tests {
     use block::{Block, Sync};

@@ -1,6 +1,8 @@
 // Writes a path message of each kind, gives its blocks to a collector, whole, damaged and woven into one another, and answers a question.
 // It prints each block with what is reported of it: the faults P1 to P3 in their order, and the kind of a message that it makes whole.
 // Main promise: none of its own; the work is that of the crates `message` and `collector`.
+#![tactic(auto)]
+
 ghost use Rattle.std.specs.Prelude.{◌≡◌, true, is_some, Some, None, MatchResult};
 ghost use Rattle.refusal.specs.declared.Refusal.TheVariants.{NoFreePlace};
 

@@ -1,6 +1,8 @@
 // Client numbers, slot numbers and frame numbers, each a type of its own, so that none is taken for another.
 // A client or slot number runs from 1 to 480, a frame number from 0 to 479; only a checked constructor makes one.
 // Main promise: `new` answers exactly the numbers in range, and refuses all others.
+#![tactic(auto)]
+
 ghost use Rattle.std.specs.Prelude.{◌≡◌, ◌+◌, ◌<◌, ◌≤◌};
 ghost use Rattle.numbers.specs.Range.{checked, checked_frame, ok_by, some_by};
 

@@ -1,6 +1,6 @@
 -- The bits of the bytes that are written.
 use Rattle.std.proofs.Common.{◌≡◌, ℕ, zero, suc, ◌+◌, ◌*◌, ◌/◌, ◌%◌, ◌^◌, ◌<◌, ◌≤◌, Bool, false, List, [], ◌∷◌, ◌++◌, get_or, take, drop, replicate, sym, ap, ◌∙◌, ap₂, mod-eq_of_lt, div-add-mod', arith, lit<, shr-shr}
-use lib.Bits.{bit_or}
+use Rattle.std.specs.Int.Bits.{bit_or}
 use Rattle.std.specs.Int.{reverse_bits_onto}
 use Rattle.std.proofs.lemmas.Nat.{or_shifted}
 use Rattle.crc.specs.Bits.{odd, low_first, high_first, bits, field, packed}

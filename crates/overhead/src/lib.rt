@@ -1,6 +1,8 @@
 // The overhead of a frame: seven bytes that announce the client of one slot, with the frame's number and a CRC-7.
 // Main promise: what `write` makes `read` gives back, and `read` answers a wrong remainder
 // for each written overhead of which one, two or three bits among 10 to 55 were changed.
+#![tactic(auto)]
+
 ghost use Rattle.std.specs.Prelude.{◌≡◌, Ok};
 ghost use Rattle.crc.specs.Bits.{bits};
 ghost use Rattle.overhead.specs.Entry.{answered_entry, read_entry};

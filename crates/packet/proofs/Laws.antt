@@ -1,5 +1,5 @@
 -- What was written is read: the packet at the front of its own blocks.
-use Rattle.std.proofs.Common.{◌≡◌, ℕ, zero, suc, ◌+◌, ◌-◌, ◌*◌, ◌/◌, ◌<◌, ◌≤◌, Bool, true, false, cond, leb, List, [], ◌∷◌, ◌++◌, length, get_or, take, drop, replicate, Some, None, Ok, Err, Decides, Result, sym, refl, ap, ◌∙◌, add-zero, arith, length-drop, take_add}
+use Rattle.std.proofs.Common.{◌≡◌, ℕ, zero, suc, ◌+◌, ◌-◌, ◌*◌, ◌/◌, ◌<◌, ◌≤◌, Bool, true, false, cond, leb, List, [], ◌∷◌, ◌++◌, length, get_or, take, drop, replicate, Some, None, Ok, Err, Decides, Result, sym, refl, ap, ◌∙◌, add-zero, arith, length-drop, take-add}
 use Rattle.std.proofs.lemmas.List.{take_at, drop-drop, append_assoc, take-append-drop, drop_all}
 use Rattle.std.proofs.lemmas.Slice.Eq.{bytes_eq-Decides}
 use Rattle.std.proofs.lemmas.Bool.{le-leb, lt-leb, false≢true}
@@ -40,7 +40,7 @@ carried_data (suc n) p left bs f =
     let more : 8 + 8 * n ≡ 8 * suc n = omega arith in
     let one : 1 + (n + 1) ≡ suc n + 1 = omega arith in
     let bytes : take 8 p ++ (take (8 * n) (drop 8 p) ++ left) ≡ take (8 * suc n) p ++ left =
-    sym (append_assoc (take 8 p) (take (8 * n) (drop 8 p)) left) ∙ ap (λ xs. xs ++ left) (sym (take_add 8 (8 * n) p) ∙ ap (λ m. take m p) more) in
+    sym (append_assoc (take 8 p) (take (8 * n) (drop 8 p)) left) ∙ ap (λ xs. xs ++ left) (sym (take-add 8 (8 * n) p) ∙ ap (λ m. take m p) more) in
     ap (prefixed (take 8 p)) (carried_data n (drop 8 p) left bs f)
     ∙ ap (λ m. Some (take 8 p ++ (take (8 * n) (drop 8 p) ++ left), m)) one
     ∙ ap (λ xs. Some (xs, suc n + 1)) bytes

@@ -1,6 +1,8 @@
 // Packets as blocks: a start block, data blocks of eight bytes, an end with the bytes that are left, and one idle.
 // A packet has 64 to 2,000 bytes; the reader looks at the front of the blocks and at nothing behind the end.
 // Main promise: `write` puts exactly the blocks of the packet, and `read` gives that packet back, whatever stands behind.
+#![tactic(auto)]
+
 ghost use Rattle.std.specs.Prelude.{◌≡◌, ◌+◌, ◌*◌, ◌<◌, ◌≤◌, ◌++◌, length, drop, None, MatchOption};
 ghost use Rattle.std.specs.List.{slice_get};
 ghost use Rattle.block.specs.Classes.{class_of};

@@ -1,6 +1,8 @@
 // An inlet that gives one client the blocks of its packets, which are lent as lengths and joined bytes.
 // Each packet's blocks come in order: its start block, its data blocks, its end and one idle; then the next packet's.
 // Main promise: a new inlet's list is exactly the blocks of all its packets, and each call gives and removes the first.
+#![tactic(auto)]
+
 ghost use Rattle.std.specs.Prelude.{◌≡◌, [], drop};
 ghost use Rattle.packet.specs.Format.{blocks_of};
 ghost use Rattle.port.specs.Model.{first_of, rest_of};

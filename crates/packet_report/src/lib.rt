@@ -1,6 +1,8 @@
 // What is printed of packets, as bytes in memory that the caller lends: a line for a packet carried, and one for a refusal.
 // Numbers are in decimal, and a packet's bytes in hexadecimal, two digits a byte in small letters.
 // Main promise: the bytes written are those that the definition `carried_text`, or `refused_text`, gives; all others stay.
+#![tactic(auto)]
+
 ghost use Rattle.std.specs.Prelude.{◌≡◌, ◌+◌, ◌*◌, ◌<◌, ◌≤◌, ◌++◌, length, decimal, nat_le};
 ghost use Rattle.listing.specs.Lines.{Wrote};
 ghost use Rattle.packet.specs.Answers.{leaves};

@@ -1,6 +1,8 @@
 // Packets as lines of text: a text cut into its lines, and a line read as a client and a packet's bytes.
 // A line is the client's number in decimal, a blank, two hexadecimal digits in small letters for each byte, and a newline.
 // Main promise: a line is read as a client and bytes exactly if it is just these written out; any other is a broken form.
+#![tactic(auto)]
+
 ghost use Rattle.std.specs.Prelude.{◌≡◌, ◌+◌, ◌*◌, ◌/◌, ◌%◌, ◌<◌, ◌≤◌, length, Some, None, MatchOption};
 ghost use Rattle.form.specs.Form.{extended as extended_by, leading, number as number_in};
 ghost use Rattle.packet.specs.Answers.{leaves, over};

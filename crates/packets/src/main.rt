@@ -1,6 +1,8 @@
 // The program `packets`: carries the packets of its input lines through a tape that all clients share, and prints each as it comes out.
 // First every packet is put into the tape, pair by pair; then, line by line again, it is taken out and read back.
 // Main promise: none of its own; `packet_text`, `transfer` and `packet_report` read, carry and print, and `main` reads and writes bytes.
+#![tactic(auto)]
+
 ghost use Rattle.std.specs.Prelude.{◌≤◌, length, IfOk};
 
 use block::Block;

@@ -1,7 +1,7 @@
 -- The words that are read at half-byte places are the bits of two blocks.
 use Rattle.std.proofs.Common.{◌≡◌, ℕ, zero, suc, ◌+◌, ◌*◌, ◌/◌, ◌%◌, ◌^◌, ◌<◌, ◌≤◌, List, [], ◌∷◌, ◌++◌, map, length, get_or, take, drop, sym, refl, ap, ◌∙◌, append_assoc, arith, lit<}
-use lib.Bits.{bit_and, bit_or, and_mask, or_shifted_r}
-use Rattle.std.proofs.lemmas.Nat.{mod-pow-add}
+use Rattle.std.specs.Int.Bits.{bit_and, bit_or, or_shifted_r}
+use Rattle.std.proofs.lemmas.Nat.{and_mask, mod-pow-add}
 use Rattle.std.proofs.lemmas.List.{drop-drop, drop-take, take_all, take-append-drop, take-take}
 use Rattle.block.specs.declared.Sync.{Sync}
 use Rattle.block.specs.declared.Sync.TheVariants.{Zeros, Control, Data, Ones}

@@ -1,12 +1,14 @@
 use Rattle.std.proofs.Common.{◌≡◌, ℕ, zero, suc, ◌+◌, ◌-◌, ◌*◌, ◌/◌, ◌%◌, ◌^◌, ◌<◌, ◌≤◌, List, [], ◌∷◌, ◌++◌, length, get_or, take, drop, set, sym, refl, ap, ◌∙◌, subst, append_assoc, arith, lit<, length-append, length-drop, drop-cons}
 use Rattle.std.proofs.lemmas.List.{take_at, drop_at, drop-drop, take-append-drop, set_split, drop_more, length-take-le, drop-append-le, take-append-le}
+use Rattle.std.specs.Int.Bits.{bit_and, bit_or, or_shifted_r}
+use Rattle.std.proofs.lemmas.Nat.{and_mask, or_shifted}
+use Rattle.std.proofs.lemmas.Nat.Bits.{and_high}
+use borrow.Rule.Slice.PartMut.{put_mid}
 use Rattle.block.specs.declared.Sync.{Sync}
 use Rattle.block.specs.declared.Sync.TheVariants.{Zeros, Control, Data, Ones}
 use Rattle.block.specs.Syncs.{sync_bits, sync_number}
 use Rattle.payload.specs.declared.Pair.{Pair}
 use Rattle.payload.specs.Pairs.{block_bits, pair_bits}
-use lib.Bits.{bit_and, bit_or, and_mask, and_high, or_shifted, or_shifted_r}
-use borrow.Rule.Slice.PartMut.{put_mid}
 use Rattle.payload.proofs.Reading.{or_shl_62, or_shl_2, sync_low}
 use Rattle.payload.specs.Bits.{low, bits, splice}
 use Rattle.payload.proofs.Laws.{num, low_split, low_join, length_low, bits_low, length_bits, low_more, pair_join}

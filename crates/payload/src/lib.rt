@@ -1,6 +1,8 @@
 // The payload of a frame: 7,920 bytes in which each of 480 slots holds a pair of 66-bit blocks.
 // Slots follow one another with no bit between them, so each second slot begins in the middle of a byte.
 // Main promise: a slot's pair is read from and written to exactly its bits, and packing and unpacking undo each other.
+#![tactic(auto)]
+
 ghost use Rattle.std.specs.Prelude.{◌≡◌, ◌+◌, ◌-◌, ◌*◌, ◌<◌, ◌≤◌, ◌++◌, length, take, drop, slice_index, slice_set};
 ghost use Rattle.block.specs.Whole.{Bytes, Whole};
 ghost use Rattle.payload.specs.Bits.{BitsAreNumbered, bits, low, splice};

@@ -1,6 +1,8 @@
 // Inlets and outlets: the places where clients' blocks come from and go to, as two traits; a store, which is both, is a third.
 // The meaning of each is a list of blocks for each client, which its calls change and its makers show.
 // Main promise: no call for one client changes another client's list.
+#![tactic(auto)]
+
 ghost use Rattle.std.specs.Prelude.{◌≡◌};
 ghost use Rattle.port.specs.Model.{Lists, Holding, Put, first_of, rest_of, taken};
 ghost use Rattle.port.specs.Pairs.{first_two, or_filler, left_by};
@@ -44,8 +46,8 @@ pub trait Store: Inlet + Outlet {
 
 // The client's first two blocks, which are removed.
 pub fn next_pair<I: Inlet>(inlet: &mut I, client: ClientNumber) -> (Option<Block>, Option<Block>)
-    ensures pair { result ≡ first_two (waiting inlet.old client.number) }
-    ensures rest { waiting inlet.new ≡ taken client.number (taken client.number (waiting inlet.old)) }
+    ensures pair { result ≡ first_two (I.waiting inlet.old client.number) }
+    ensures rest { I.waiting inlet.new ≡ taken client.number (taken client.number (I.waiting inlet.old)) }
 {
     let first = inlet.next(client);
     let second = inlet.next(client);
@@ -60,8 +62,8 @@ pub fn move_pair<I: Inlet, O: Outlet>(
     client: ClientNumber,
     filler: Block,
 ) -> Result<(), Refusal>
-    ensures from { waiting inlet.new ≡ left_by result client.number (waiting inlet.old) }
-    ensures to { Put client.number (or_filler filler (first_of (waiting inlet.old client.number))) (or_filler filler (first_of (rest_of (waiting inlet.old client.number)))) result (holding outlet.old) (holding outlet.new) }
+    ensures from { I.waiting inlet.new ≡ left_by result client.number (I.waiting inlet.old) }
+    ensures to { Put client.number (or_filler filler (first_of (I.waiting inlet.old client.number))) (or_filler filler (first_of (rest_of (I.waiting inlet.old client.number)))) result (O.holding outlet.old) (O.holding outlet.new) }
 {
     if outlet.free(client) < 2 {
         return Err(Refusal::NoFreePlace);

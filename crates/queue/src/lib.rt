@@ -1,6 +1,8 @@
 // A queue over memory that the caller lends, written once for every kind of entry; each kind names its key.
 // It adds at the end, and removes the first entry or the first entry with a key; the others keep their order.
 // Main promise: each call's answer and the list of entries after it are those of the definitions in `Entries`.
+#![tactic(auto)]
+
 ghost use Rattle.std.specs.Prelude.{◌≡◌, ℕ, ◌<◌, ◌≤◌, [], length, drop, Some, MatchOption};
 ghost use Rattle.std.specs.List.{remove, slice_get};
 ghost use Rattle.queue.specs.Found.{NoneWith, FirstAt};

@@ -1,6 +1,8 @@
 // The causes for which a call is refused, in one enum for the whole product.
 // Each cause has a fixed number, by which a script or an operator knows it.
 // Main promise: `number` answers the number that the definition `number_of` gives the cause.
+#![tactic(auto)]
+
 ghost use Rattle.std.specs.Prelude.{◌≡◌};
 ghost use Rattle.refusal.specs.Numbers.{number_of};
 

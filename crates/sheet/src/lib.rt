@@ -1,6 +1,8 @@
 // The highest level of the sheet reader: a sheet's leases, line by line, as a calendar.
 // A sheet has one lease a line; the first line that breaks a rule refuses the sheet, and the calendar is as it was.
 // Main promise: `read` accepts just the sheets that write out lawful leases, and gives each slot to its lease's client.
+#![tactic(auto)]
+
 ghost use Rattle.std.specs.Prelude.{◌≡◌, ℕ, ◌+◌, ◌-◌, ◌<◌, ◌≤◌, true, false, cond, List, length, is_ok, Some, None, Ok, Err, MatchResult};
 ghost use Rattle.calendar.specs.Entries.{entries_of};
 ghost use Rattle.sheet.specs.Groups.{claim_of, group_of, line_of};

@@ -1,6 +1,7 @@
 // Examples of the sheet reader, as tables of sheets and what they come to, worked out by hand.
 // Accepted sheets with the slots and shares that they give; refused ones by cause, level and line.
 // Main promise: none; each test is proved to be safe and to end, and then run.
+#![tactic(auto)]
 
 #[cfg(test)]
 mod tests {

@@ -1,6 +1,8 @@
 // The program `slots`: reads a lease sheet from standard input, and prints each client's slot count and first slot.
 // A refused sheet prints only its refusal line, and the program then ends with status 1.
 // Main promise: none of its own; `sheet::read` judges the sheet, `listing` makes the text, and `main` reads and writes bytes.
+#![tactic(auto)]
+
 ghost use Rattle.std.specs.Prelude.{◌≤◌, length, IfOk};
 
 use calendar::Calendar;

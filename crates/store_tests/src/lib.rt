@@ -1,6 +1,8 @@
 // Worked examples for the queue, the tape and the bank, as tests; the expected values are worked by hand.
 // Each shows one edge: a full store, no places, a removal in the middle, a ring that goes round, areas that do not fit.
 // Main promise: none; the tests hold.
+#![tactic(auto)]
+
 #[cfg(test)]
 mod tests {
     use bank::Bank;

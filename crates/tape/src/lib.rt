@@ -1,6 +1,8 @@
 // A tape: a store of blocks in one queue over lent entries, each tagged with its client; all clients share the places.
 // A client has as many free places as the tape has places less all the blocks it holds; a removed block frees its place.
 // Main promise: the tape is an inlet and an outlet, and the list it holds for a client is the list that waits for it.
+#![tactic(auto)]
+
 ghost use Rattle.std.specs.Prelude.{◌≡◌, length};
 ghost use Rattle.port.specs.Model.{Put, empty_with, first_of, taken};
 ghost use Rattle.tape.specs.Lists.{tape_lists, tape_holding, after_next, after_put};

@@ -1,6 +1,8 @@
 // Packets moved into a store and out of it: pair by pair from an inlet to an outlet, and back to bytes.
 // A move is whole or refused; a packet of an odd number of blocks has an idle behind it, since places are used in pairs.
 // Main promise: what a store gains for a client is exactly the packet's blocks, and taken out again they give the packet back.
+#![tactic(auto)]
+
 ghost use Rattle.std.specs.Prelude.{◌≡◌, true, [], ◌∷◌, length};
 ghost use Rattle.block.specs.Fixed.{idle_block};
 ghost use Rattle.packet.specs.Answers.{bytes_of, leaves, read_answer};

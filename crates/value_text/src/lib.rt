@@ -1,6 +1,8 @@
 // How values are written as text, and the line that compares a value expected with one computed.
 // Bytes are written in hexadecimal with single blanks, and a block with its sync bits in front.
 // Main promise: `line` says `ok` exactly if the text computed is the text expected, and each text is the one that its definition gives.
+#![tactic(auto)]
+
 ghost use Rattle.std.specs.Prelude.{◌≡◌, ◌<◌, ◌++◌, IfOk, string_bytes, Decides, OnOk};
 ghost use Rattle.std.specs.Str.{bytes_eq};
 ghost use Rattle.value_text.specs.Texts.{HexReadsBack, block_text, hex_byte, hex_digit, hex_of, line_of, placed_byte, refused_text, sync_text, verdict_of};

@@ -1,6 +1,8 @@
 // Worked values of the standard as the library computes them, written as text.
 // Each is computed by the call that a user of the library makes, with bad input refused as that call refuses it.
 // Main promise: each text is that of the value which the definition behind the call gives.
+#![tactic(auto)]
+
 ghost use Rattle.std.specs.Prelude.{◌≡◌, ◌≤◌, length, IfOk, Ok, Err, string_bytes};
 ghost use Rattle.crc.specs.Bits.{field as bitField};
 ghost use Rattle.crc.specs.Remainder.{remainder};

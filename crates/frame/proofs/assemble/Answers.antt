@@ -9,13 +9,13 @@ use Rattle.frame.proofs.assemble.Goals as goal
 pub loop-i-preserved : goal.loop-i-preserved
 loop-i-preserved c =
     let i : ℕ = c.loop-i.i in
-    let b : Block = c.block-at.result in
+    let b : Block = c.block_at.result in
     let bs : List Block = c.loop-i.blocks in
     let F : List ℕ = c.args.overhead.now ++ c.args.payload.now in (
       length-set bs i b ∙ c.loop-i.invariant.0,
       below_more (λ j. get_or (set bs i b) j blank ≡ frame_block F (j + 1)) i
           (λ j h. get_or-set_other bs i j b blank (λ e. omega arith) ∙ c.loop-i.invariant.1 j h)
-          (get_or-set_same bs i b blank (omega arith) ∙ c.block-at.ensures ∙ ap (frame_block F) c.of-index.ensures),
+          (get_or-set_same bs i b blank (omega arith) ∙ c.block_at.ensures ∙ ap (frame_block F) c.of_index.ensures),
     )
 
 pub returns : goal.returns

@@ -16,7 +16,7 @@ pub returns-in-2 : goal.returns-in-2
 returns-in-2 c =
     let F : List ℕ = c.args.overhead.now ++ c.args.payload.now in
     let e : 2 ≡ c.args.place.number = omega arith in
-    record { kept = c.store-first.ensures ∙ ap (λ (n : ℕ). stored n c.args.block.now.bytes F) e; eight = omega arith; restored = frame_restored }
+    record { kept = c.store_first.ensures ∙ ap (λ (n : ℕ). stored n c.args.block.now.bytes F) e; eight = omega arith; restored = frame_restored }
 
 pub returns-in-992 : goal.returns-in-992
 returns-in-992 c =
@@ -33,13 +33,13 @@ returns-in-992 c =
       restored = frame_restored;
     }
 
-pub returns-in-default : goal.returns-in-default
-returns-in-default c =
+pub returns-in_default : goal.returns-in_default
+returns-in_default c =
     let o : List ℕ = c.args.overhead.now in
     let p : List ℕ = c.args.payload.now in
     let bs : List ℕ = c.args.block.now.bytes in
     record {
-      kept = ap (λ (l : List ℕ). o ++ l) c.store-in-default.ensures
+      kept = ap (λ (l : List ℕ). o ++ l) c.store-in_default.ensures
           ∙ past_stored o p bs _ (8 * (c.args.place.number - 2)) c.told-overhead (omega arith)
           ∙ sym (stored_data c.args.place.number bs (o ++ p) (λ e. omega arith) (λ e. omega arith));
       eight = omega arith;

@@ -14,14 +14,14 @@ loop-i-preserved c =
     let F : List ℕ = c.loop-i.overhead ++ c.loop-i.payload in
     let within : c.loop-i.i < length c.args.blocks.now = omega arith in
     let b : get_or bs i blank ≡ get_or bs i start_block = get_or_default bs i blank start_block within in
-    let one : c.store-block.new.overhead ++ c.store-block.new.payload ≡ stored (i + 1) (get_or bs i start_block).bytes F =
-    c.store-block.ensures.kept ∙ ap (λ (n : ℕ). stored n (get_or bs i blank).bytes F) c.of-index.ensures
+    let one : c.store_block.new.overhead ++ c.store_block.new.payload ≡ stored (i + 1) (get_or bs i start_block).bytes F =
+    c.store_block.ensures.kept ∙ ap (λ (n : ℕ). stored n (get_or bs i blank).bytes F) c.of_index.ensures
     ∙ ap (λ (x : Block). stored (i + 1) x.bytes F) b in (
-      c.store-block.array_long,
-      c.store-block.array-long2,
+      c.store_block.array_long,
+      c.store_block.array_long2,
       ap (λ (l : List ℕ). stored_from (i + 1 + 1) (drop (i + 1) bs) l) one ∙ sym (stored_more bs i F within) ∙ c.loop-i.invariant.2,
       below_more (λ j. length (get_or bs j start_block).bytes ≡ 8) i c.loop-i.invariant.3
-          (ap (λ (x : Block). length x.bytes) (sym b) ∙ c.store-block.ensures.eight),
+          (ap (λ (x : Block). length x.bytes) (sym b) ∙ c.store_block.ensures.eight),
     )
 
 pub returns : goal.returns

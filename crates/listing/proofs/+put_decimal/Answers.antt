@@ -6,8 +6,8 @@ use Rattle.listing.proofs.Laid.{digit_more, one_digit, wrote_none}
 use Rattle.listing.proofs.+put_decimal.Goals as goal
 use Rattle.listing.proofs.+put_decimal.Goals.{then-number-lt10, else-number-lt10, Joined-number-lt10}
 
-pub put-decimal-last-requires : goal.put-decimal-last-requires
-put-decimal-last-requires t c =
+pub put_decimal-last-requires : goal.put_decimal-last-requires
+put_decimal-last-requires t c =
     let split = decimal_step c.args.number c.if-number-lt10.false (omega arith) in
     (search rules, omega (arith, simp length_push at (ap length split)))
 
@@ -27,14 +27,14 @@ with_last t c =
           digit_more
           c.args.at c.if-number-lt10.last c.args.number _ c.args.out.now c.if-number-lt10.out c.requires
           (decimal_step c.args.number w.if-number-lt10.false (omega arith))
-          (rw (w.out-is, w.last-is) w.put-decimal-last.ensures)
+          (rw (w.out-is, w.last-is) w.put_decimal-last.ensures)
     ]
 
 pub bounds-out-last : goal.bounds-out-last
 bounds-out-last t c = (with_last t c).0
 
-pub overflow-add-result : goal.overflow-add-result
-overflow-add-result t c = omega (arith, (with_last t (goal.at.overflow-add-result t c).Joined-number-lt10).0)
+pub overflow_add-result : goal.overflow_add-result
+overflow_add-result t c = omega (arith, (with_last t (goal.at.overflow_add-result t c).Joined-number-lt10).0)
 
 pub returns : goal.returns
 returns t c = (with_last t (goal.at.returns t c).Joined-number-lt10).1

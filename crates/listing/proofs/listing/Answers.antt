@@ -11,8 +11,8 @@ use Rattle.listing.proofs.Lengths.{first_le, short_line, short_lines}
 use Rattle.listing.proofs.listing.Goals as goal
 use Rattle.listing.proofs.listing.Goals.{then-count-ne0, else-count-ne0}
 
-pub put-line-at-requires : goal.put-line-at-requires
-put-line-at-requires c =
+pub put_line-at-requires : goal.put_line-at-requires
+put_line-at-requires c =
     let es = entries_of c.args.calendar.now in
     let full = entries_length c.args.calendar.now in
     let so_far = short_lines es (c.loop-number.number - 1) full (omega arith) in
@@ -36,7 +36,7 @@ loop-number-preserved c =
     elim c.if-count-ne0.branch [
       | then-count-ne0 w ↦
           let more = some_more es c.loop-number.number c.share-count.result.0 c.share-count.result.1 low count first w.if-count-ne0.true in
-          rw (w.out-is, w.at-is, ← more) (wrote_more (omega arith) c.loop-number.invariant w.put-line-at.ensures)
+          rw (w.out-is, w.at-is, ← more) (wrote_more (omega arith) c.loop-number.invariant w.put_line-at.ensures)
       | else-count-ne0 w ↦
           let more = none_more es c.loop-number.number c.share-count.result.0 low count w.if-count-ne0.false in
           rw (w.out-is, w.at-is, ← more) c.loop-number.invariant

@@ -27,6 +27,6 @@ returns c =
     let h : blocks_of c.args.kind ≤ length c.args.output.now = omega arith in
     record {
       answer = ap {B = Result ℕ Refusal} (λ (m : ℕ). Ok m) n ∙ answer_ok c.args.kind c.args.values.now c.args.output.now e h;
-      output = c.write-blocks.ensures ∙ written_ok c.args.kind c.args.values.now c.args.output.now e h;
+      output = c.write_blocks.ensures ∙ written_ok c.args.kind c.args.values.now c.args.output.now e h;
       laws = laws;
     }

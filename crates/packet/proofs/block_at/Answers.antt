@@ -13,20 +13,20 @@ returns-then-place-eq0 c = at-opening c.args.packet.now c.args.place (omega arit
 pub returns-then-at-whole : goal.returns-then-at-whole
 returns-then-at-whole c =
     let eight : 8 * (c.args.place - 1) + 8 - 8 * (c.args.place - 1) ≡ 8 = omega arith in
-    at-data c.args.packet.now c.args.place (omega arith) (omega arith) _ (rw eight at c.data-block.ensures)
+    at-data c.args.packet.now c.args.place (omega arith) (omega arith) _ (rw eight at c.data_block.ensures)
 
 pub returns-in-0 : goal.returns-in-0
 returns-in-0 c =
     let zeroth : c.args.place - 1 - length c.args.packet.now / 8 ≡ 0 = omega arith in
-    ap Some (rw take_rest at c.end-block.ensures) ∙ sym (at_last c.args.packet.now c.args.place (omega arith) (omega arith) ∙ rw zeroth refl)
+    ap Some (rw take_rest at c.end_block.ensures) ∙ sym (at_last c.args.packet.now c.args.place (omega arith) (omega arith) ∙ rw zeroth refl)
 
 pub returns-in-1 : goal.returns-in-1
 returns-in-1 c =
     let first : c.args.place - 1 - length c.args.packet.now / 8 ≡ 1 = omega arith in
     ap Some c.idle.ensures ∙ sym (at_last c.args.packet.now c.args.place (omega arith) (omega arith) ∙ rw first refl)
 
-pub returns-in-default : goal.returns-in-default
-returns-in-default c =
+pub returns-in_default : goal.returns-in_default
+returns-in_default c =
     let past : 2 ≤ c.args.place - 1 - length c.args.packet.now / 8 = omega arith in
     sym (at_last c.args.packet.now c.args.place (omega arith) (omega arith)
     ∙ slice_get_past (end_block (drop (8 * (length c.args.packet.now / 8)) c.args.packet.now) ∷ idle_block ∷ []) (c.args.place - 1 - length c.args.packet.now / 8) past)

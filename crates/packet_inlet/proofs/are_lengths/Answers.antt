@@ -2,17 +2,17 @@ use Rattle.std.proofs.Common.{sym, ◌∙◌, ⊎_elim}
 use Rattle.packet_inlet.proofs.Lengths.{lengths-more, lengths-out, lengths_short, lengths-all}
 use Rattle.packet_inlet.proofs.are_lengths.Goals as goal
 
-pub returns-then-not-is-packet-length : goal.returns-then-not-is-packet-length
-returns-then-not-is-packet-length c =
+pub returns-then-not-is_packet_length : goal.returns-then-not-is_packet_length
+returns-then-not-is_packet_length c =
     ⊎_elim
-    (λ out. lengths-out c.args.lengths.now c.loop-length.length-index c.loop-length.left c.args.bytes c.loop-length.invariant c.loop-length-test.true (sym out ∙ c.is-packet-length.ensures))
+    (λ out. lengths-out c.args.lengths.now c.loop-length.length-index c.loop-length.left c.args.bytes c.loop-length.invariant c.loop-length-test.true (sym out ∙ c.is_packet_length.ensures))
     (λ short. lengths_short c.args.lengths.now c.loop-length.length-index c.loop-length.left c.args.bytes c.loop-length.invariant c.loop-length-test.true short.1)
-    c.then-not-is-packet-length.either
+    c.then-not-is_packet_length.either
 
 pub loop-length-preserved : goal.loop-length-preserved
 loop-length-preserved c =
     lengths-more c.args.lengths.now c.loop-length.length-index c.loop-length.left c.args.bytes c.loop-length.invariant c.loop-length-test.true
-    c.if-not-is-packet-length.ensures c.if-left-length.false
+    c.if-not-is_packet_length.ensures c.if-left-length.false
 
 pub returns : goal.returns
 returns c =

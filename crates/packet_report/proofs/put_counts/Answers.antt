@@ -5,17 +5,17 @@ use Rattle.listing.proofs.Laid.{wrote_more, wrote_parts}
 use Rattle.packet_report.specs.Texts.{counts_text}
 use Rattle.packet_report.proofs.put_counts.Goals as goal
 
-pub put-number-at-requires : goal.put-number-at-requires
-put-number-at-requires c = omega (arith, length-decimal-le 5 c.args.client (omega arith) (omega arith) (omega arith))
+pub put_number-at-requires : goal.put_number-at-requires
+put_number-at-requires c = omega (arith, length-decimal-le 5 c.args.client (omega arith) (omega arith) (omega arith))
 
-pub put-number-at-requires-2 : goal.put-number-at-requires-2
-put-number-at-requires-2 c =
+pub put_number-at-requires-2 : goal.put_number-at-requires-2
+put_number-at-requires-2 c =
     let one = length-append (decimal c.args.client) (codes ": ") in
     let client = length-decimal-le 5 c.args.client (omega arith) (omega arith) (omega arith) in
     omega (arith, length-decimal-le 20 c.args.bytes (omega arith) (omega arith) (omega arith))
 
-pub put-number-requires : goal.put-number-requires
-put-number-requires c =
+pub put_number-requires : goal.put_number-requires
+put_number-requires c =
     let one = length-append (decimal c.args.client) (codes ": ") in
     let two = length-append (decimal c.args.bytes) (codes " bytes, ") in
     let client = length-decimal-le 5 c.args.client (omega arith) (omega arith) (omega arith) in
@@ -34,7 +34,7 @@ returns c =
     record {
       wrote =
           wrote_more (omega arith) c.put-at.ensures
-          (wrote_parts (decimal c.args.client) (codes ": ") (omega arith) c.put-number-at.ensures
-          (wrote_parts (decimal c.args.bytes) (codes " bytes, ") (omega arith) c.put-number-at-2.ensures c.put-number.ensures));
+          (wrote_parts (decimal c.args.client) (codes ": ") (omega arith) c.put_number-at.ensures
+          (wrote_parts (decimal c.args.bytes) (codes " bytes, ") (omega arith) c.put_number-at-2.ensures c.put_number.ensures));
       short = omega arith;
     }

@@ -3,4 +3,4 @@ use Rattle.listing.proofs.Laid.{wrote_more}
 use Rattle.packet_report.proofs.put_number.Goals as goal
 
 pub returns : goal.returns
-returns c = wrote_more (omega arith) c.put-decimal-end.ensures c.put.ensures
+returns c = wrote_more (omega arith) c.put_decimal-end.ensures c.put.ensures

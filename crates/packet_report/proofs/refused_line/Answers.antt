@@ -10,17 +10,17 @@ use Rattle.packet_report.proofs.refused_line.Goals as goal
 
 pub put-at-requires : goal.put-at-requires
 put-at-requires c =
-    let room = leb-true (room_for 0) (length c.args.out.now) (sym c.has-room.ensures ∙ c.if-not-has-room.false) in
+    let room = leb-true (room_for 0) (length c.args.out.now) (sym c.has_room.ensures ∙ c.if-not-has_room.false) in
     omega arith
 
-pub put-number-at-requires : goal.put-number-at-requires
-put-number-at-requires c =
-    let room = leb-true (room_for 0) (length c.args.out.now) (sym c.has-room.ensures ∙ c.if-not-has-room.false) in
+pub put_number-at-requires : goal.put_number-at-requires
+put_number-at-requires c =
+    let room = leb-true (room_for 0) (length c.args.out.now) (sym c.has_room.ensures ∙ c.if-not-has_room.false) in
     omega (arith, length-decimal-le 20 c.args.line (omega arith) (omega arith) (omega arith))
 
-pub put-number-requires : goal.put-number-requires
-put-number-requires c =
-    let room = leb-true (room_for 0) (length c.args.out.now) (sym c.has-room.ensures ∙ c.if-not-has-room.false) in
+pub put_number-requires : goal.put_number-requires
+put_number-requires c =
+    let room = leb-true (room_for 0) (length c.args.out.now) (sym c.has_room.ensures ∙ c.if-not-has_room.false) in
     let front = length-append (decimal c.args.line) (codes ": refused ") in
     let line = length-decimal-le 20 c.args.line (omega arith) (omega arith) (omega arith) in
     omega (arith, length-decimal-le 3 c.number-number.result (omega arith) (omega arith) (omega arith))
@@ -28,21 +28,21 @@ put-number-requires c =
 pub returns : goal.returns
 unfolding refused_text
 returns c =
-    let fits : leb (room_for 0) (length c.args.out.now) ≡ true = sym c.has-room.ensures ∙ c.if-not-has-room.false in
+    let fits : leb (room_for 0) (length c.args.out.now) ≡ true = sym c.has_room.ensures ∙ c.if-not-has_room.false in
     let room = leb-true (room_for 0) (length c.args.out.now) fits in
     let front = length-append (decimal c.args.line) (codes ": refused ") in
     let line = length-decimal-le 20 c.args.line (omega arith) (omega arith) (omega arith) in
-    let last = wrote_as (ap (λ n. decimal n ++ codes "\n") c.number-number.ensures) refl c.put-number.ensures in
-    let wrote : Wrote 0 (refused_text c.args.line c.args.cause) c.args.out.now c.put-number.new.out c.put-number.result =
+    let last = wrote_as (ap (λ n. decimal n ++ codes "\n") c.number-number.ensures) refl c.put_number.ensures in
+    let wrote : Wrote 0 (refused_text c.args.line c.args.cause) c.args.out.now c.put_number.new.out c.put_number.result =
     wrote_more (omega arith) c.put-at.ensures
-    (wrote_parts (decimal c.args.line) (codes ": refused ") (omega arith) c.put-number-at.ensures last) in
+    (wrote_parts (decimal c.args.line) (codes ": refused ") (omega arith) c.put_number-at.ensures last) in
     record {
       answer = written_answer _ _ _ _ 0 (length c.args.out.now) fits wrote;
       output = written_over _ _ _ _ wrote;
     }
 
-pub returns-then-not-has-room : goal.returns-then-not-has-room
-returns-then-not-has-room c = record {
-  answer = short_answer _ 0 (length c.args.out.now) (sym c.has-room.ensures ∙ c.if-not-has-room.true);
+pub returns-then-not-has_room : goal.returns-then-not-has_room
+returns-then-not-has_room c = record {
+  answer = short_answer _ 0 (length c.args.out.now) (sym c.has_room.ensures ∙ c.if-not-has_room.true);
   output = refl;
 }

@@ -8,34 +8,34 @@ use Rattle.packet_text.proofs.parts.Goals.{else-last-eq10-via-then-last-eq10+els
 use Rattle.std.proofs.lemmas.Bool.Decides.{Decides-eqb}
 
 -- behind the number and the blank
-behind : (c : goal.In-ok-rest) → line_parts c.args.line.now ≡ rest_by c.in-ok-client.client c.in-ok-rest.rest.now
+behind : (c : goal.In-ok-rest) → line_parts c.args.line.now ≡ rest_by c.in_ok-client.client c.in_ok-rest.rest.now
 behind c =
-    parts_at c.args.line.now c.in-ok-client.rest.now c.in-ok-rest.rest.now c.in-ok-client.client
-    c.in-ok-client.ensures
-    (MatchOption-at_some _ _ c.in-ok-rest.rest c.in-ok-rest.was
-    (strip_prefix_is Decides-eqb c.in-ok-client.rest.now (codes " ") c.strip-prefix.result c.strip-prefix.ensures.cases))
+    parts_at c.args.line.now c.in_ok-client.rest.now c.in_ok-rest.rest.now c.in_ok-client.client
+    c.in_ok-client.ensures
+    (MatchOption-at_some _ _ c.in_ok-rest.rest c.in_ok-rest.was
+    (strip_prefix_is Decides-eqb c.in_ok-client.rest.now (codes " ") c.strip_prefix.result c.strip_prefix.ensures.cases))
 
-pub returns-in-err-last : goal.returns-in-err-last
-returns-in-err-last c =
-    rw c.from-residual-in-err-last.ensures
-    (behind (goal.at.returns-in-err-last c).In-ok-rest
-    ∙ rest_empty c.in-ok-client.client c.in-ok-rest.rest.now c.in-err-last.ensures.cases)
+pub returns-in_err-last : goal.returns-in_err-last
+returns-in_err-last c =
+    rw c.from_residual-in_err-last.ensures
+    (behind (goal.at.returns-in_err-last c).In-ok-rest
+    ∙ rest_empty c.in_ok-client.client c.in_ok-rest.rest.now c.in_err-last.ensures.cases)
 
-pub returns-then-is-hex : goal.returns-then-is-hex
-returns-then-is-hex c =
-    behind (goal.at.returns-then-is-hex c).In-ok-rest
-    ∙ rest_hex c.in-ok-client.client c.in-ok-last.last.now c.in-ok-rest.rest.now c.in-ok-last.digits.now
-    c.in-ok-last.ensures.cases.0 c.if-last-eq10.true (sym c.is-hex.ensures ∙ c.if-is-hex.true)
+pub returns-then-is_hex : goal.returns-then-is_hex
+returns-then-is_hex c =
+    behind (goal.at.returns-then-is_hex c).In-ok-rest
+    ∙ rest_hex c.in_ok-client.client c.in_ok-last.last.now c.in_ok-rest.rest.now c.in_ok-last.digits.now
+    c.in_ok-last.ensures.cases.0 c.if-last-eq10.true (sym c.is_hex.ensures ∙ c.if-is_hex.true)
 
 pub returns-else-last-eq10 : goal.returns-else-last-eq10
 returns-else-last-eq10 c =
-    let none : rest_by c.in-ok-client.client c.in-ok-rest.rest.now ≡ None =
+    let none : rest_by c.in_ok-client.client c.in_ok-rest.rest.now ≡ None =
     elim c.else-last-eq10.branch [
       | else-last-eq10-via-then-last-eq10+else-is-hex w ↦
-          rest_not_hex c.in-ok-client.client c.in-ok-last.last.now c.in-ok-rest.rest.now c.in-ok-last.digits.now
-          c.in-ok-last.ensures.cases.0 w.if-last-eq10.true (sym w.is-hex.ensures ∙ w.if-is-hex.false)
+          rest_not_hex c.in_ok-client.client c.in_ok-last.last.now c.in_ok-rest.rest.now c.in_ok-last.digits.now
+          c.in_ok-last.ensures.cases.0 w.if-last-eq10.true (sym w.is_hex.ensures ∙ w.if-is_hex.false)
       | else-last-eq10-via-else-last-eq10 w ↦
-          rest_other c.in-ok-client.client c.in-ok-last.last.now c.in-ok-rest.rest.now c.in-ok-last.digits.now
-          c.in-ok-last.ensures.cases.0 w.if-last-eq10.false
+          rest_other c.in_ok-client.client c.in_ok-last.last.now c.in_ok-rest.rest.now c.in_ok-last.digits.now
+          c.in_ok-last.ensures.cases.0 w.if-last-eq10.false
     ] in
     behind (goal.at.returns-else-last-eq10 c).In-ok-rest ∙ none

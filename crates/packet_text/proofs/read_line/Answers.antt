@@ -3,8 +3,8 @@ use Rattle.packet.specs.Answers.{over}
 use Rattle.packet_text.proofs.Forms.{answer_broken, answer_read, answer_short, bytes_at, lines_read, only_lines_read, pairs_of}
 use Rattle.packet_text.proofs.read_line.Goals as goal
 
-pub read-hex-requires : goal.read-hex-requires
-read-hex-requires c = record {
+pub read_hex-requires : goal.read_hex-requires
+read_hex-requires c = record {
   pairs = pairs_of c.args.line.now c.in-Some.digits.now c.in-Some.client c.in-Some.ensures;
   room = omega arith;
 }
@@ -15,15 +15,15 @@ returns c = record {
       answer_read c.args.line.now c.in-Some.digits.now c.in-Some.client (length c.in-Some.digits.now / 2) (length c.args.out.now)
       c.in-Some.ensures refl (omega arith);
   output =
-      c.read-hex.ensures
+      c.read_hex.ensures
       ∙ ap (λ bs. over bs c.args.out.now) (bytes_at c.args.line.now c.in-Some.digits.now c.in-Some.client c.in-Some.ensures);
   all = lines_read;
   only = only_lines_read;
 }
 
-pub returns-in-default : goal.returns-in-default
-returns-in-default c = record {
-  answer = answer_broken c.args.line.now (length c.args.out.now) c.in-default.ensures;
+pub returns-in_default : goal.returns-in_default
+returns-in_default c = record {
+  answer = answer_broken c.args.line.now (length c.args.out.now) c.in_default.ensures;
   output = refl;
   all = lines_read;
   only = only_lines_read;

@@ -9,9 +9,9 @@ use Rattle.payload.proofs.block.Goals as goal
 pub returns : goal.returns
 returns c =
     let w : ℕ = c.args.word in
-    let e = c.to-le-bytes.ensures in
+    let e = c.to_le_bytes.ensures in
     record {
-      sent = ap (λ (l : List ℕ). l ++ bits c.to-le-bytes.result) (sync_low c.from-bits.result c.args.sync c.from-bits.ensures)
+      sent = ap (λ (l : List ℕ). l ++ bits c.to_le_bytes.result) (sync_low c.from_bits.result c.args.sync c.from_bits.ensures)
           ∙ ap (λ (l : List ℕ). low 2 c.args.sync ++ l) (ap bits e ∙ bits_word w c.ranges.word.fits);
       whole = (
         ap length e,

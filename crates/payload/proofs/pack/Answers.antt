@@ -13,17 +13,17 @@ loop-two-preserved c =
     let t : ℕ = c.loop-two.two in
     let ps : List Pair = c.args.pairs.now in
     let p : List ℕ = c.loop-two.payload in
-    let q : List ℕ = c.write-at.new.payload in
-    let r : List ℕ = c.write-at-in-loop-two.new.payload in
+    let q : List ℕ = c.write_at.new.payload in
+    let r : List ℕ = c.write_at-in-loop-two.new.payload in
     let a : bits q ≡ splice (132 * (2 * t)) (pair_bits (get_or ps (2 * t) blank)) (bits p) =
-    c.write-at.ensures.sent ∙ ap (λ (n : ℕ). splice n (pair_bits (get_or ps (2 * t) blank)) (bits p)) c.of-slot.ensures.bit in
+    c.write_at.ensures.sent ∙ ap (λ (n : ℕ). splice n (pair_bits (get_or ps (2 * t) blank)) (bits p)) c.of_slot.ensures.bit in
     let b : bits r ≡ splice (132 * (2 * t + 1)) (pair_bits (get_or ps (2 * t + 1) blank)) (bits q) =
-    c.write-at-in-loop-two.ensures.sent
-    ∙ ap (λ (n : ℕ). splice n (pair_bits (get_or ps (2 * t + 1) blank)) (bits q)) c.of-slot-in-loop-two.ensures.bit in (
-      packed_two ps t p q r c.told-pairs c.loop-two-test.true c.loop-two.invariant.1 c.write-at.array_long
-          c.write-at.ensures.whole c.write-at-in-loop-two.ensures.whole a b c.loop-two.invariant.0,
-      c.write-at-in-loop-two.array_long,
-      below_two (λ j. WholePair (get_or ps j blank)) t c.loop-two.invariant.2 c.write-at.ensures.whole c.write-at-in-loop-two.ensures.whole,
+    c.write_at-in-loop-two.ensures.sent
+    ∙ ap (λ (n : ℕ). splice n (pair_bits (get_or ps (2 * t + 1) blank)) (bits q)) c.of_slot-in-loop-two.ensures.bit in (
+      packed_two ps t p q r c.told-pairs c.loop-two-test.true c.loop-two.invariant.1 c.write_at.array_long
+          c.write_at.ensures.whole c.write_at-in-loop-two.ensures.whole a b c.loop-two.invariant.0,
+      c.write_at-in-loop-two.array_long,
+      below_two (λ j. WholePair (get_or ps j blank)) t c.loop-two.invariant.2 c.write_at.ensures.whole c.write_at-in-loop-two.ensures.whole,
     )
 
 pub returns : goal.returns
@@ -35,7 +35,7 @@ returns c =
     sym (take_all (132 * (2 * c.loop-two.two)) (bits p) (omega (arith, length_bits c.loop-two.payload))) ∙ c.loop-two.invariant.0
     ∙ ap (λ (z : List Pair). flat_map pair_bits z) (take_all (2 * c.loop-two.two) ps (omega arith)) in
     record {
-      made = payload_is p ps h c.hold-bytes.ensures.bytes sent;
+      made = payload_is p ps h c.hold_bytes.ensures.bytes sent;
       sent = sent;
       undone = pairs_packed p ps blank c.told-pairs (λ j l. c.loop-two.invariant.2 j (omega arith)) sent;
     }

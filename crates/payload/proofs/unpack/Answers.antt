@@ -10,11 +10,11 @@ loop-two-preserved c =
     let t : ℕ = c.loop-two.two in
     let p : List ℕ = c.args.payload.now in (
       length-set _ _ _ ∙ length-set _ _ _ ∙ c.loop-two.invariant.0,
-      unpacked_two c.loop-two.pairs t p c.read-at.result c.read-at-in-loop-two.result c.loop-two.invariant.0 c.loop-two-test.true
+      unpacked_two c.loop-two.pairs t p c.read_at.result c.read_at-in-loop-two.result c.loop-two.invariant.0 c.loop-two-test.true
           c.loop-two.invariant.1
-          (pair_at_is p _ _ c.read-at.result (c.of-slot.ensures.bit ∙ omega arith) c.read-at.ensures.whole c.read-at.ensures.sent)
-          (pair_at_is p _ _ c.read-at-in-loop-two.result (c.of-slot-in-loop-two.ensures.bit ∙ omega arith)
-          c.read-at-in-loop-two.ensures.whole c.read-at-in-loop-two.ensures.sent),
+          (pair_at_is p _ _ c.read_at.result (c.of_slot.ensures.bit ∙ omega arith) c.read_at.ensures.whole c.read_at.ensures.sent)
+          (pair_at_is p _ _ c.read_at-in-loop-two.result (c.of_slot-in-loop-two.ensures.bit ∙ omega arith)
+          c.read_at-in-loop-two.ensures.whole c.read_at-in-loop-two.ensures.sent),
     )
 
 pub returns : goal.returns

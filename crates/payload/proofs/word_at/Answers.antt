@@ -5,5 +5,5 @@ use Rattle.payload.proofs.word_at.Goals as goal
 
 pub returns : goal.returns
 returns c =
-    ap (λ (x : ℕ). low 64 x) (c.from-le-bytes.ensures ∙ num_word c.args.payload.now c.args.at c.fits-payload (omega arith))
+    ap (λ (x : ℕ). low 64 x) (c.from_le_bytes.ensures ∙ num_word c.args.payload.now c.args.at c.fits-payload (omega arith))
     ∙ sym (word_at c.args.payload.now c.args.at (omega arith))

@@ -12,9 +12,9 @@ returns c =
     let B : List ℕ = bits c.args.payload.now in
     let X : List ℕ = pair_bits c.args.pair in
     let e : c.index.result ≡ c.args.slot.number - 1 = omega arith in
-    let s = c.write-at.ensures.sent ∙ ap (λ (n : ℕ). splice n X B) c.of-slot.ensures.bit in
+    let s = c.write_at.ensures.sent ∙ ap (λ (n : ℕ). splice n X B) c.of_slot.ensures.bit in
     record {
       sent = s ∙ ap (λ (n : ℕ). splice (132 * n) X B) e;
-      made = pairs_written c.args.payload.now _ i c.args.pair c.told-payload c.index.ensures.high c.write-at.ensures.whole s
+      made = pairs_written c.args.payload.now _ i c.args.pair c.told-payload c.index.ensures.high c.write_at.ensures.whole s
           ∙ ap (λ (n : ℕ). set (pairs_of c.args.payload.now) n c.args.pair) e;
     }

@@ -12,11 +12,11 @@ use Rattle.sheet.proofs.claim_all.Goals as goal
 pub loop-group-init : goal.loop-group-init
 loop-group-init c = (refl, (length c.args.text.rest.now, omega arith, refl))
 
-pub returns-in-err-group : goal.returns-in-err-group
-returns-in-err-group c =
-    let p = err_from_is_err_and c.from-residual.result c.from-residual.ensures.1 in
+pub returns-in_err-group : goal.returns-in_err-group
+returns-in_err-group c =
+    let p = err_from_is_err_and c.from_residual.result c.from_residual.ensures.1 in
     let inv = c.loop-group.invariant in
-    let e = c.in-err-group.ensures in
+    let e = c.in_err-group.ensures in
     rw (p.1, p.2) (
       inv.1.2 ∙ behind_none inv.1.0 c.args.client c.loop-group.text.rest.now (claim_of (entries_of c.loop-group.draft) c.loop-group.claims) e.0,
       e.1 ∙ ap (refused FormBroken Forms) inv.0,
@@ -25,18 +25,18 @@ returns-in-err-group c =
 pub returns-then-closes : goal.returns-then-closes
 returns-then-closes c =
     let inv = c.loop-group.invariant in
-    let e = c.in-ok-group.ensures in
+    let e = c.in_ok-group.ensures in
     inv.1.2
-    ∙ behind_last inv.1.0 c.args.client c.loop-group.text.rest.now c.in-ok-group.rest.rest.now (group_of c.in-ok-group.group) (claim_of (entries_of c.loop-group.draft) c.loop-group.claims) inv.1.1 e.0 (sym c.if-closes.ensures)
+    ∙ behind_last inv.1.0 c.args.client c.loop-group.text.rest.now c.in_ok-group.rest.rest.now (group_of c.in_ok-group.group) (claim_of (entries_of c.loop-group.draft) c.loop-group.claims) inv.1.1 e.0 (sym c.if-closes.ensures)
     ∙ ap Some (sym c.claim-claims.ensures)
 
 pub loop-group-smaller : goal.loop-group-smaller
-loop-group-smaller c = group_shorter c.loop-group.text.rest.now c.in-ok-group.rest.rest.now (group_of c.in-ok-group.group) c.in-ok-group.ensures.0
+loop-group-smaller c = group_shorter c.loop-group.text.rest.now c.in_ok-group.rest.rest.now (group_of c.in_ok-group.group) c.in_ok-group.ensures.0
 
 pub loop-group-preserved : goal.loop-group-preserved
 loop-group-preserved c =
     let inv = c.loop-group.invariant in
-    let e = c.in-ok-group.ensures in
-    let ys : List ℕ = c.in-ok-group.rest.rest.now in
-    let n = behind_next inv.1.0 c.args.client c.loop-group.text.rest.now ys (group_of c.in-ok-group.group) (claim_of (entries_of c.loop-group.draft) c.loop-group.claims) inv.1.1 e.0 (sym c.if-closes.ensures) in
+    let e = c.in_ok-group.ensures in
+    let ys : List ℕ = c.in_ok-group.rest.rest.now in
+    let n = behind_next inv.1.0 c.args.client c.loop-group.text.rest.now ys (group_of c.in_ok-group.group) (claim_of (entries_of c.loop-group.draft) c.loop-group.claims) inv.1.1 e.0 (sym c.if-closes.ensures) in
     (e.1 ∙ inv.0, (n.0, n.1, inv.1.2 ∙ n.2 ∙ ap (behind n.0 c.args.client ys) (sym c.claim-claims.ensures)))

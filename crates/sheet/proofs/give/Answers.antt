@@ -33,20 +33,20 @@ loop-number-preserved c =
     elim c.match-new.branch [
       | in-Ok w ↦
           let s = checked_ok k w.in-Ok.slot.number w.in-Ok.ensures in
-          let some : w.is-some.result ≡ cond (eqb (get_or es (k - 1) 0) 0) false true =
-          w.is-some.ensures ∙ some_entry w.client.result ∙ ap (λ x. cond (eqb x 0) false true) (w.client.ensures ∙ ap (λ i. get_or now (i - 1) 0) s ∙ slot_read C f k es now one from top full is) in
-          let or : filled (take (k + 1 - f) (drop (f - 1) es)) ≡ cond c.loop-number.again true w.is-some.result =
+          let some : w.is_some.result ≡ cond (eqb (get_or es (k - 1) 0) 0) false true =
+          w.is_some.ensures ∙ some_entry w.client.result ∙ ap (λ x. cond (eqb x 0) false true) (w.client.ensures ∙ ap (λ i. get_or now (i - 1) 0) s ∙ slot_read C f k es now one from top full is) in
+          let or : filled (take (k + 1 - f) (drop (f - 1) es)) ≡ cond c.loop-number.again true w.is_some.result =
           used ∙ ap (λ b. cond b true (cond (eqb (get_or es (k - 1) 0) 0) false true)) (sym c.loop-number.invariant.3) ∙ ap (λ t. cond c.loop-number.again true t) (sym some) in (
             omega arith,
             bound,
             ap entries_of w.draft-is ∙ w.assign.ensures ∙ ap (λ i. set now (i - 1) C) s ∙ slot-given C f k es now one from top full is,
-            w.again-is ∙ elim w.if-is-some.branch [
-              | then-is-some v ↦ v.again-is ∙ again_then c.loop-number.again w.is-some.result _ or v.if-is-some.true
-              | else-is-some v ↦ v.again-is ∙ again_else c.loop-number.again w.is-some.result _ or v.if-is-some.false
+            w.again-is ∙ elim w.if-is_some.branch [
+              | then-is-some v ↦ v.again-is ∙ again_then c.loop-number.again w.is_some.result _ or v.if-is_some.true
+              | else-is-some v ↦ v.again-is ∙ again_else c.loop-number.again w.is_some.result _ or v.if-is_some.false
             ],
           )
       | in-default w ↦
-          absurd (let e : Err w.in-default.field-0 ≡ Ok k = w.in-default.ensures ∙ checked_in k (omega arith) top in let z : ◌≡◌ {A = ℕ} 0 1 = cc in omega arith)
+          absurd (let e : Err w.in_default.field-0 ≡ Ok k = w.in_default.ensures ∙ checked_in k (omega arith) top in let z : ◌≡◌ {A = ℕ} 0 1 = cc in omega arith)
     ]
 
 pub returns : goal.returns

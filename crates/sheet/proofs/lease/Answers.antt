@@ -13,12 +13,12 @@ returns c =
     let n : ℕ = c.args.line.text.line in
     let es : List ℕ = entries_of c.args.draft.now in
     let text : List ℕ = c.args.line.text.rest.now in
-    let rest : List ℕ = c.in-ok-client.text.rest.now in
-    let out : List ℕ = entries_of c.claim-all.new.draft in
-    let opens : opening text ≡ Some (c.in-ok-client.client, rest) =
-    ap (λ t. opening t.rest.now) (sym c.in-ok-whole.ensures.1) ∙ c.in-ok-client.ensures.0 in
-    let whole : leased n es (line_form (line_of c.args.line)) ≡ weighed n c.is-named-known.result (claim_of out c.in-ok-claims.claims) =
-    ap (leased n es) (cond-true c.args.line.ended (form text) None c.in-ok-whole.ensures.0)
-    ∙ leased_weighed n c.in-ok-client.client es text rest (claim_of out c.in-ok-claims.claims) opens c.in-ok-claims.ensures
-    ∙ ap (λ b. weighed n b (claim_of out c.in-ok-claims.claims)) (sym c.is-named-known.ensures) in
+    let rest : List ℕ = c.in_ok-client.text.rest.now in
+    let out : List ℕ = entries_of c.claim_all.new.draft in
+    let opens : opening text ≡ Some (c.in_ok-client.client, rest) =
+    ap (λ t. opening t.rest.now) (sym c.in_ok-whole.ensures.1) ∙ c.in_ok-client.ensures.0 in
+    let whole : leased n es (line_form (line_of c.args.line)) ≡ weighed n c.is_named-known.result (claim_of out c.in_ok-claims.claims) =
+    ap (leased n es) (cond-true c.args.line.ended (form text) None c.in_ok-whole.ensures.0)
+    ∙ leased_weighed n c.in_ok-client.client es text rest (claim_of out c.in_ok-claims.claims) opens c.in_ok-claims.ensures
+    ∙ ap (λ b. weighed n b (claim_of out c.in_ok-claims.claims)) (sym c.is_named-known.ensures) in
     MatchResult-weaker c.weigh.result (c.weigh.ensures out) (λ _ e. whole ∙ e) (λ _ e. whole ∙ e)

@@ -6,7 +6,7 @@ use Rattle.sheet.proofs.read.Goals as goal
 pub returns : goal.returns
 returns c =
     record {
-      equals = c.read-lines.ensures;
-      only = read_only (c.read-lines.new.calendar ≡ c.args.calendar.now) c.read-lines.result c.args.sheet.now (entries_of c.read-lines.new.calendar) c.read-lines.ensures;
-      every = read_every (c.read-lines.new.calendar ≡ c.args.calendar.now) c.read-lines.result c.args.sheet.now (entries_of c.read-lines.new.calendar) c.read-lines.ensures;
+      equals = c.read_lines.ensures;
+      only = read_only (c.read_lines.new.calendar ≡ c.args.calendar.now) c.read_lines.result c.args.sheet.now (entries_of c.read_lines.new.calendar) c.read_lines.ensures;
+      every = read_every (c.read_lines.new.calendar ≡ c.args.calendar.now) c.read_lines.result c.args.sheet.now (entries_of c.read_lines.new.calendar) c.read_lines.ensures;
     }

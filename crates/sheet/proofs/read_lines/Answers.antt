@@ -13,10 +13,10 @@ use Rattle.sheet.proofs.read_lines.Goals as goal
 some : (xs : List ℕ) → false ≡ eqb (length xs) 0 → 0 < length xs
 some xs e = let n = eqb-false (length xs) 0 (sym e) in omega arith
 
-pub returns-in-err-line : goal.returns-in-err-line
-returns-in-err-line c =
-    let p = err_from_is_err_and c.from-residual.result c.from-residual.ensures.1 in
-    let e = c.in-err-line.ensures in
+pub returns-in_err-line : goal.returns-in_err-line
+returns-in_err-line c =
+    let p = err_from_is_err_and c.from_residual.result c.from_residual.ensures.1 in
+    let e = c.in_err-line.ensures in
     let xs : List ℕ = c.loop-rest.rest.now in
     rw (p.1, p.2) (
       not_long c.args.sheet.now (omega arith) ∙ c.loop-rest.invariant.0
@@ -25,42 +25,42 @@ returns-in-err-line c =
       refl,
     )
 
-pub returns-in-err-lease : goal.returns-in-err-lease
-returns-in-err-lease c =
-    let p = err_from_is_err_and c.from-residual-in-err-lease.result c.from-residual-in-err-lease.ensures.1 in
-    let l = c.in-ok-line.ensures in
+pub returns-in_err-lease : goal.returns-in_err-lease
+returns-in_err-lease c =
+    let p = err_from_is_err_and c.from_residual-in_err-lease.result c.from_residual-in_err-lease.ensures.1 in
+    let l = c.in_ok-line.ensures in
     let n : ℕ = c.loop-rest.number in
     let es : List ℕ = entries_of c.loop-rest.draft in
     let xs : List ℕ = c.loop-rest.rest.now in
-    let f = line_form (line_of c.in-ok-line.line) in
+    let f = line_form (line_of c.in_ok-line.line) in
     rw (p.1, p.2) (
       not_long c.args.sheet.now (omega arith) ∙ c.loop-rest.invariant.0
-          ∙ line_refused n es xs (some xs c.loop-rest-test.ensures) (line_of c.in-ok-line.line) c.in-ok-line.after.now l.0 l.1 c.in-err-lease.field-0.0
-          (ap (λ m. leased m es f) (sym l.2) ∙ c.in-err-lease.ensures),
+          ∙ line_refused n es xs (some xs c.loop-rest-test.ensures) (line_of c.in_ok-line.line) c.in_ok-line.after.now l.0 l.1 c.in_err-lease.field-0.0
+          (ap (λ m. leased m es f) (sym l.2) ∙ c.in_err-lease.ensures),
       refl,
     )
 
 pub loop-rest-smaller : goal.loop-rest-smaller
 loop-rest-smaller c =
-    let l = c.in-ok-line.ensures in
+    let l = c.in_ok-line.ensures in
     let xs : List ℕ = c.loop-rest.rest.now in
     let r = rest_shorter xs (some xs c.loop-rest-test.ensures) in
-    let e : length c.in-ok-line.after.now ≡ length (first_line xs).1 = ap (λ q. length q.1) l.0 in
+    let e : length c.in_ok-line.after.now ≡ length (first_line xs).1 = ap (λ q. length q.1) l.0 in
     omega arith
 
 pub loop-rest-preserved : goal.loop-rest-preserved
 loop-rest-preserved c =
-    let l = c.in-ok-line.ensures in
+    let l = c.in_ok-line.ensures in
     let n : ℕ = c.loop-rest.number in
     let es : List ℕ = entries_of c.loop-rest.draft in
     let xs : List ℕ = c.loop-rest.rest.now in
-    let f = line_form (line_of c.in-ok-line.line) in
+    let f = line_form (line_of c.in_ok-line.line) in
     let r = rest_shorter xs (some xs c.loop-rest-test.ensures) in
-    let e : length c.in-ok-line.after.now ≡ length (first_line xs).1 = ap (λ q. length q.1) l.0 in
+    let e : length c.in_ok-line.after.now ≡ length (first_line xs).1 = ap (λ q. length q.1) l.0 in
     let bound = c.loop-rest.invariant.1 in (
       c.loop-rest.invariant.0
-          ∙ line_read n es xs (some xs c.loop-rest-test.ensures) (line_of c.in-ok-line.line) c.in-ok-line.after.now l.0 l.1 (entries_of c.lease.new.draft)
-          (ap (λ m. leased m es f) (sym l.2) ∙ c.in-ok-lease.ensures),
+          ∙ line_read n es xs (some xs c.loop-rest-test.ensures) (line_of c.in_ok-line.line) c.in_ok-line.after.now l.0 l.1 (entries_of c.lease.new.draft)
+          (ap (λ m. leased m es f) (sym l.2) ∙ c.in_ok-lease.ensures),
       omega arith,
     )
 

@@ -10,7 +10,7 @@ pub loop-moved-preserved : goal.loop-moved-preserved
 loop-moved-preserved g c = (
   omega arith,
   moved_more _ c.loop-moved.moved _ _ _ _ _ _ _ c.loop-moved.invariant.1
-      c.in-ok-move-pair.ensures.from c.in-ok-move-pair.ensures.to,
+      c.in_ok-move_pair.ensures.from c.in_ok-move_pair.ensures.to,
 )
 
 pub returns : goal.returns

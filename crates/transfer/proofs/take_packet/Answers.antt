@@ -8,12 +8,12 @@ pub returns : goal.returns
 returns g c =
     let waits = g.I.Inlet.waiting c.args.inlet.now c.args.client.number in
     let places = length c.args.blocks.now in
-    let all : c.take-blocks.new.out ≡ padded idle_block places waits =
-    c.take-blocks.ensures.blocks ∙ ap (λ f. padded f places waits) c.idle.ensures in
+    let all : c.take_blocks.new.out ≡ padded idle_block places waits =
+    c.take_blocks.ensures.blocks ∙ ap (λ f. padded f places waits) c.idle.ensures in
     record {
       taken = all;
-      left = c.take-blocks.ensures.left;
+      left = c.take_blocks.ensures.left;
       answer = c.read.ensures.answer;
       output = c.read.ensures.output;
-      back = comes_back waits c.take-blocks.new.out places _ _ _ all c.read.ensures.back;
+      back = comes_back waits c.take_blocks.new.out places _ _ _ all c.read.ensures.back;
     }

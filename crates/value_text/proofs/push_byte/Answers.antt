@@ -8,7 +8,7 @@ returns c =
     let alone : ℕ → List ℕ = λ d. d ∷ [] in
     two_pushed c.push-2.result (string_bytes c.args.text.now) (string_bytes c.push.new.self) (string_bytes c.push-2.new.self) _ _
     (hex_digit (c.args.byte / 16)) (hex_digit (c.args.byte % 16))
-    (rw c.in-ok-push.was at c.push.ensures.bytes)
-    (c.push.ensures.ascii c.hex-digit.ensures.ascii ∙ ap alone c.hex-digit.ensures.value)
-    (c.push-2.ensures.ascii c.hex-digit-2.ensures.ascii ∙ ap alone c.hex-digit-2.ensures.value)
+    (rw c.in_ok-push.was at c.push.ensures.bytes)
+    (c.push.ensures.ascii c.hex_digit.ensures.ascii ∙ ap alone c.hex_digit.ensures.value)
+    (c.push-2.ensures.ascii c.hex_digit-2.ensures.ascii ∙ ap alone c.hex_digit-2.ensures.value)
     c.push-2.ensures.bytes

@@ -1,4 +1,4 @@
-use mathlib.Core.Path.{refl}
+use Rattle.std.proofs.Math.Path.{refl}
 use Rattle.crc.specs.Bits.{low_first, high_first, bits, packed}
 use Rattle.crc.specs.Remainder.{step, reduce}
 use Rattle.overhead.specs.Format.{covered_bits, overhead_bits, overhead_bytes, read_word, read_bytes}

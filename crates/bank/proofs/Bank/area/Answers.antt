@@ -2,8 +2,8 @@ use Rattle.std.proofs.Common.{arith}
 use Rattle.bank.proofs.Areas.{row_end, area_at, area_none}
 use Rattle.bank.proofs.Bank.area.Goals as goal
 
-pub overflow-sub-result : goal.overflow-sub-result
-overflow-sub-result c = omega (arith, row_end c.number.result c.args.self.now.width (omega arith))
+pub overflow_sub-result : goal.overflow_sub-result
+overflow_sub-result c = omega (arith, row_end c.number.result c.args.self.now.width (omega arith))
 
 pub returns-then-end-places : goal.returns-then-end-places
 returns-then-end-places c = area_at c.args.client.number c.number.result c.args.self.now.width _ c.number.ensures.value c.args.client.low c.args.client.high c.if-end-places.true

@@ -3,18 +3,18 @@ use Rattle.bank.specs.Lists.{bank_lists}
 use Rattle.bank.proofs.Blocks.{nothing_without_places, none_given, nothing-counted, first-read-by}
 use Rattle.bank.proofs.BankStore.first.Goals as goal
 
-pub returns-in-err-start : goal.returns-in-err-start
-returns-in-err-start c =
-    let e = nothing_without_places c.args.self.now.width c.args.client.number c.args.self.now.memory.now c.args.self.now.rings c.in-err-start.ensures in
-    record { first = c.from-residual.ensures ∙ none_given (bank_lists c.args.self.now) c.args.client.number e; one_list = refl }
+pub returns-in_err-start : goal.returns-in_err-start
+returns-in_err-start c =
+    let e = nothing_without_places c.args.self.now.width c.args.client.number c.args.self.now.memory.now c.args.self.now.rings c.in_err-start.ensures in
+    record { first = c.from_residual.ensures ∙ none_given (bank_lists c.args.self.now) c.args.client.number e; one_list = refl }
 
 pub returns-then-min-eq0 : goal.returns-then-min-eq0
 returns-then-min-eq0 c =
-    let e = nothing-counted c.args.self.now.width c.args.client.number c.in-ok-start.start c.args.self.now.memory.now c.args.self.now.rings c.in-ok-start.ensures c.args.client.low c.ring-ring.result c.min.result c.ring-ring.ensures c.min.ensures (omega arith) in
+    let e = nothing-counted c.args.self.now.width c.args.client.number c.in_ok-start.start c.args.self.now.memory.now c.args.self.now.rings c.in_ok-start.ensures c.args.client.low c.ring-ring.result c.min.result c.ring-ring.ensures c.min.ensures (omega arith) in
     record { first = none_given (bank_lists c.args.self.now) c.args.client.number e; one_list = refl }
 
 pub returns : goal.returns
 returns c = record {
-  first = first-read-by c.args.self.now.width c.args.client.number c.in-ok-start.start c.args.self.now.memory.now c.args.self.now.rings c.in-ok-start.ensures c.args.client.low c.ring-ring.result c.place.result _ c.ring-ring.ensures c.place.ensures (omega arith);
+  first = first-read-by c.args.self.now.width c.args.client.number c.in_ok-start.start c.args.self.now.memory.now c.args.self.now.rings c.in_ok-start.ensures c.args.client.low c.ring-ring.result c.place.result _ c.ring-ring.ensures c.place.ensures (omega arith);
   one_list = refl;
 }

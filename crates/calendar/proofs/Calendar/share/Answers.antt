@@ -1,4 +1,4 @@
-use Rattle.std.proofs.Common.{◌-◌, ◌≤◌, length, drop, refl, arith}
+use Rattle.std.proofs.Common.{◌-◌, ◌≤◌, length, get_or, drop, refl, arith}
 use Rattle.std.proofs.lemmas.List.{drop_all, length-drop}
 use Rattle.std.proofs.lemmas.Bool.{both_ways}
 use Rattle.calendar.specs.Entries.{entries_of}
@@ -12,14 +12,14 @@ loop-i-init c =
     let none = drop_all 480 (entries_of c.args.self.now) few in
     rw none (refl, refl)
 
-pub overflow-add-count : goal.overflow-add-count
-overflow-add-count c =
+pub overflow_add-count : goal.overflow_add-count
+overflow_add-count c =
     let rest = drop c.loop-i.i (entries_of c.args.self.now) in
     omega (arith, count_le c.args.client.number rest, length-drop c.loop-i.i (entries_of c.args.self.now), entries_length c.args.self.now)
 
 pub loop-i-preserved-then-eq : goal.loop-i-preserved-then-eq
 loop-i-preserved-then-eq c =
-    let own = (same_entry _ c.args.client _ c.eq.ensures).0 c.if-eq.true in
+    let own = (same_entry (get_or c.args.self.now.entries (c.loop-i.i - 1) c.index-self-i.result) c.args.client _ c.eq.ensures).0 c.if-eq.true in
     share_yes
     c.args.client.number c.args.self.now.entries c.index-self-i.result
     c.loop-i.count c.loop-i.i (c.loop-i.i - 1) (omega arith) (omega arith) own c.loop-i.invariant.0
@@ -29,7 +29,7 @@ loop-i-preserved c =
     share_no
     c.args.client.number c.args.self.now.entries c.index-self-i.result
     c.loop-i.count c.loop-i.first c.loop-i.i (c.loop-i.i - 1) (omega arith) (omega arith)
-    (λ own. both_ways c.eq.result c.if-eq.false ((same_entry _ c.args.client _ c.eq.ensures).1 own))
+    (λ own. both_ways c.eq.result c.if-eq.false ((same_entry (get_or c.args.self.now.entries (c.loop-i.i - 1) c.index-self-i.result) c.args.client _ c.eq.ensures).1 own))
     c.loop-i.invariant
 
 pub returns : goal.returns

@@ -8,12 +8,12 @@ use Rattle.std.proofs.lemmas.Bool.Decides.{Decides-eqb}
 
 pub returns-in-Some : goal.returns-in-Some
 returns-in-Some c =
-    let is = MatchOption-at_some _ _ c.in-Some.rest c.in-Some.is (strip_prefix_is Decides-eqb c.args.self.rest.now c.args.word.now c.strip-prefix.result c.strip-prefix.ensures.cases) in
+    let is = MatchOption-at_some _ _ c.in-Some.rest c.in-Some.is (strip_prefix_is Decides-eqb c.args.self.rest.now c.args.word.now c.strip_prefix.result c.strip_prefix.ensures.cases) in
     (ap (after c.args.word.now) is ∙ after_append c.args.word.now c.in-Some.rest.now, refl)
 
 pub returns-in-None : goal.returns-in-None
 returns-in-None c = (
   after_none c.args.word.now c.args.self.rest.now
-      (MatchOption-at_none _ _ c.in-None.is (strip_prefix_is Decides-eqb c.args.self.rest.now c.args.word.now c.strip-prefix.result c.strip-prefix.ensures.cases)),
+      (MatchOption-at_none _ _ c.in-None.is (strip_prefix_is Decides-eqb c.args.self.rest.now c.args.word.now c.strip_prefix.result c.strip_prefix.ensures.cases)),
   c.broken.ensures,
 )

@@ -10,10 +10,10 @@ use Rattle.overhead.proofs.Overhead.write.Goals.{in-Some, in-None}
 pub returns : goal.returns
 returns c =
     let f : Fields = fields_of c.args.self in
-    let bs : List ℕ = c.to-le-bytes.result in
-    let w : ℕ = c.reverse-bits.result in
+    let bs : List ℕ = c.to_le_bytes.result in
+    let w : ℕ = c.reverse_bits.result in
     let r : ℕ = c.remainder-remainder.result in
-    let x : ℕ = c.reverse-bits-2.result in
+    let x : ℕ = c.reverse_bits-2.result in
     let entry-is : c.match-self.client ≡ f.entry
     = elim c.match-self.branch [
       | in-Some v ↦ v.client-is ∙ v.number-client.ensures.value ∙ sym (ap entry_of v.in-Some.is)
@@ -23,19 +23,19 @@ returns c =
     = elim c.match-self.branch [ in-Some v ↦ omega (arith, v.client-is, v.number-client.ensures.high) | in-None v ↦ omega (arith, v.client-is) ] in
     let t : Turned f w (get_or bs 0 0) (get_or bs 1 0) (get_or bs 2 0) (get_or bs 3 0)
     = turned_from f c.match-self.client c.number.result w bs entry-is c.number.ensures.value high c.number.ensures.high
-    c.reverse-bits.ensures c.reverse-bits.type-inv c.to-le-bytes.ensures in
+    c.reverse_bits.ensures c.reverse_bits.type_inv c.to_le_bytes.ensures in
     let rest : r ≡ remainder_of (covered_bits f)
     = c.remainder-remainder.ensures.value
     ∙ ap₂ (λ (d G : ℕ). remainder d G (field (get_or bs 0 0 ∷ get_or bs 1 0 ∷ get_or bs 2 0 ∷ get_or bs 3 0 ∷ 0 ∷ 0 ∷ 0 ∷ []) 10 49))
-    c.degree-seven.ensures.degree c.degree-seven.ensures.terms
+    c.degree_seven.ensures.degree c.degree_seven.ensures.terms
     ∙ ap remainder_of (covered f w (get_or bs 0 0) (get_or bs 1 0) (get_or bs 2 0) (get_or bs 3 0) t) in
-    let below : r < 128 = subst (λ (d : ℕ). r < 2 ^ d) c.degree-seven.ensures.degree c.remainder-remainder.ensures.below in
+    let below : r < 128 = subst (λ (d : ℕ). r < 2 ^ d) c.degree_seven.ensures.degree c.remainder-remainder.ensures.below in
     let e : bits (get_or bs 0 0 ∷ get_or bs 1 0 ∷ get_or bs 2 0 ∷ get_or bs 3 0 ∷ 0 ∷ 0 ∷ x ∷ []) ≡ overhead_bits f
-    = written f w (get_or bs 0 0) (get_or bs 1 0) (get_or bs 2 0) (get_or bs 3 0) t r x rest below c.reverse-bits-2.ensures in
+    = written f w (get_or bs 0 0) (get_or bs 1 0) (get_or bs 2 0) (get_or bs 3 0) t r x rest below c.reverse_bits-2.ensures in
     let all : List ℕ = get_or bs 0 0 ∷ get_or bs 1 0 ∷ get_or bs 2 0 ∷ get_or bs 3 0 ∷ 0 ∷ 0 ∷ x ∷ [] in
     record {
       bits = e;
-      bytes = bytes-written f w (get_or bs 0 0) (get_or bs 1 0) (get_or bs 2 0) (get_or bs 3 0) t x c.reverse-bits-2.type-inv e;
+      bytes = bytes-written f w (get_or bs 0 0) (get_or bs 1 0) (get_or bs 2 0) (get_or bs 3 0) t x c.reverse_bits-2.type_inv e;
       back = reads_back f all (omega (arith, entry-is, high)) c.args.self.frame.high e;
       seen = changes_seen f all refl e;
     }

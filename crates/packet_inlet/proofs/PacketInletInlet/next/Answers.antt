@@ -8,8 +8,8 @@ use Rattle.packet_inlet.specs.Waiting.{blocks_left}
 use Rattle.packet_inlet.proofs.Left.{drop_some, drop_none, nth_within, own_list, own_taken}
 use Rattle.packet_inlet.proofs.PacketInletInlet.next.Goals as goal
 
-pub overflow-add-self : goal.overflow-add-self
-overflow-add-self c =
+pub overflow_add-self : goal.overflow_add-self
+overflow_add-self c =
     let within = nth_within (blocks_of c.args.self.now.packet.now) c.args.self.now.place c.in-Some.block c.in-Some.ensures in
     let count = length_blocks_of c.args.self.now.packet.now in
     omega arith
@@ -25,13 +25,13 @@ returns-in-Some c =
       rest = own_taken _ _ _ (blocks_left c.args.self.now) _ own refl (sym (ap rest_of left));
     }
 
-pub open-next-requires : goal.open-next-requires
-open-next-requires c = drop_none (blocks_of c.args.self.now.packet.now) c.args.self.now.place c.in-default.ensures
+pub open_next-requires : goal.open_next-requires
+open_next-requires c = drop_none (blocks_of c.args.self.now.packet.now) c.args.self.now.place c.in_default.ensures
 
 pub returns : goal.returns
 returns c =
     let own : c.args.client.number ≡ c.args.self.now.client = sym c.number.ensures.value ∙ c.if-number-self.false in
     record {
-      first = c.open-next.ensures.first ∙ sym (ap first_of (own_list _ _ (blocks_left c.args.self.now) own));
-      rest = own_taken _ _ _ (blocks_left c.args.self.now) (blocks_left c.open-next.new.self) own c.open-next.ensures.client c.open-next.ensures.rest;
+      first = c.open_next.ensures.first ∙ sym (ap first_of (own_list _ _ (blocks_left c.args.self.now) own));
+      rest = own_taken _ _ _ (blocks_left c.args.self.now) (blocks_left c.open_next.new.self) own c.open_next.ensures.client c.open_next.ensures.rest;
     }

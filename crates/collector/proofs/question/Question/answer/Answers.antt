@@ -4,7 +4,7 @@ use Rattle.collector.proofs.question.Question.answer.Goals as goal
 
 pub returns-in-Ok : goal.returns-in-Ok
 returns-in-Ok g c = record {
-  taken = subst (λ (vs : List ℕ). g.S.Answers.left c.args.sender.now vs (Ok tt) c.leave.new.self) c.reply-values.ensures c.in-Ok.ensures;
+  taken = subst (λ (vs : List ℕ). g.S.Answers.left c.args.sender.now vs (Ok tt) c.leave.new.self) c.reply_values.ensures c.in-Ok.ensures;
   lawful = replies_lawful;
 }
 
@@ -12,7 +12,7 @@ pub returns-in-Err : goal.returns-in-Err
 returns-in-Err g c = record {
   taken = (
     refl,
-    subst (λ (vs : List ℕ). g.S.Answers.left c.args.sender.now vs (Err c.in-Err.refusal) c.leave.new.self) c.reply-values.ensures c.in-Err.ensures,
+    subst (λ (vs : List ℕ). g.S.Answers.left c.args.sender.now vs (Err c.in-Err.refusal) c.leave.new.self) c.reply_values.ensures c.in-Err.ensures,
   );
   lawful = replies_lawful;
 }

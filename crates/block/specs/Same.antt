@@ -1,0 +1,9 @@
+-- When two blocks are the same: by their sync bits and their bytes.
+use Rattle.std.specs.Prelude.{Bool, ◌==◌}
+use Rattle.std.specs.Str.{bytes_eq}
+use Rattle.std.specs.Ordering.{on, eq_of_both}
+use Rattle.block.specs.declared.Block.{Block}
+use Rattle.block.specs.Syncs.{sync_number}
+
+abbrev pub is_same : Block → Block → Bool
+is_same = eq_of_both (on (λ b. sync_number b.sync) ◌==◌) (on (λ b. b.bytes) bytes_eq)
