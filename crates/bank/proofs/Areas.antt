@@ -62,11 +62,11 @@ width_cases w m k = go (leb 1 k) refl (leb k (area_count w m)) refl
     go true d true e = inr (leb-true 1 k d, rw (d, e) refl)
 
 module _ (w c start : ℕ) (memory : List Block) (at : AreaAt w (length memory) c start) where
-  pub area-is : area_of w memory c ≡ take w (drop start memory)
-  area-is = rw (at.width, at.begins) refl
+  pub area_is : area_of w memory c ≡ take w (drop start memory)
+  area_is = rw (at.width, at.begins) refl
 
-  pub length-area : length (area_of w memory c) ≡ w
-  length-area = ap length area-is ∙ (simp (length-take, length-drop) (let h = at.within in omega arith))
+  pub length_area : length (area_of w memory c) ≡ w
+  length_area = ap length area_is ∙ (simp (length-take, length-drop) (let h = at.within in omega arith))
 
   -- a write to a place of client c's area
   pub area_set : (p : ℕ) (x : Block) → p < w → area_of w (set memory (start + p) x) c ≡ set (area_of w memory c) p x
@@ -75,11 +75,11 @@ module _ (w c start : ℕ) (memory : List Block) (at : AreaAt w (length memory) 
       let f : drop start (set memory (start + p) x) ≡ set (drop start memory) p x = drop-set-add start memory p x in
       let g : take w (set (drop start memory) p x) ≡ set (take w (drop start memory)) p x = take-set-lt w (drop start memory) p x h in
       let a : area_of w (set memory (start + p) x) c ≡ take w (drop start (set memory (start + p) x)) = rw (l, at.width, at.begins) refl in
-      a ∙ ap (take w) f ∙ g ∙ ap (λ (r : List Block). set r p x) (sym area-is)
+      a ∙ ap (take w) f ∙ g ∙ ap (λ (r : List Block). set r p x) (sym area_is)
 
   -- leaves every other client's area
-  pub area-kept : (p : ℕ) (x : Block) (k : ℕ) → p < w → 1 ≤ c → eqb k c ≡ false → area_of w (set memory (start + p) x) k ≡ area_of w memory k
-  area-kept p x k h o n =
+  pub area_kept : (p : ℕ) (x : Block) (k : ℕ) → p < w → 1 ≤ c → eqb k c ≡ false → area_of w (set memory (start + p) x) k ≡ area_of w memory k
+  area_kept p x k h o n =
       let l : length (set memory (start + p) x) ≡ length memory = length-set memory (start + p) x in
       rw l (⊎_elim none some (width_cases w (length memory) k))
     where

@@ -8,8 +8,8 @@ use Rattle.port.specs.Model.{Lists, Holding, Accepted, updated, first_of, rest_o
 use Rattle.bank.specs.declared.Ring.{Ring}
 use Rattle.bank.specs.Ring.{turned, place_at}
 use Rattle.bank.specs.Lists.{width_of, AreaAt, area_of, ring_of, blocks_in, free_in, after_next, after_put}
-use Rattle.bank.proofs.Turns.{length_turned, place_below, turned_set, turned-get, turned-next}
-use Rattle.bank.proofs.Areas.{area-is, length-area, area_set, area-kept}
+use Rattle.bank.proofs.Turns.{length_turned, place_below, turned_set, turned_get, turned_next}
+use Rattle.bank.proofs.Areas.{area_is, length_area, area_set, area_kept}
 
 turned_none : (first : ℕ) (a : List Block) → length a ≤ 0 → turned first a ≡ []
 turned_none first [] h =
@@ -105,22 +105,22 @@ module _ (w c start : ℕ) (memory : List Block) (rings : List Ring) (at : AreaA
   abbrev order : List Block
   order = turned (ring_of rings c).first (area_of w memory c)
 
-  order-length : length order ≡ w
-  order-length = length_turned (ring_of rings c).first (area_of w memory c) ∙ length-area w c start memory at
+  order_length : length order ≡ w
+  order_length = length_turned (ring_of rings c).first (area_of w memory c) ∙ length_area w c start memory at
 
-  own-ring : (r : Ring) → c - 1 < length rings → ring_of (set rings (c - 1) r) c ≡ r
-  own-ring r among = get_or-set_same rings (c - 1) r (record { first = 0; count = 0 }) among
+  own_ring : (r : Ring) → c - 1 < length rings → ring_of (set rings (c - 1) r) c ≡ r
+  own_ring r among = get_or-set_same rings (c - 1) r (record { first = 0; count = 0 }) among
 
   -- no block is counted, or there is no place
-  pub nothing-counted : (r : Ring) (n : ℕ) → r ≡ ring_of rings c → n ≡ min r.count w → n ≡ 0 → blocks_in w memory rings c ≡ []
-  nothing-counted r n e m z = ⊎_elim counted wide (cases_lt 0 w)
+  pub nothing_counted : (r : Ring) (n : ℕ) → r ≡ ring_of rings c → n ≡ min r.count w → n ≡ 0 → blocks_in w memory rings c ≡ []
+  nothing_counted r n e m z = ⊎_elim counted wide (cases_lt 0 w)
     where
       same : (ring_of rings c).count ≡ r.count
       same = ap (λ (r : Ring). r.count) (sym e)
 
       wide : w ≤ 0 → blocks_in w memory rings c ≡ []
       wide h =
-          let q : order ≡ [] = turned_none (ring_of rings c).first (area_of w memory c) (omega (arith, length-area w c start memory at)) in
+          let q : order ≡ [] = turned_none (ring_of rings c).first (area_of w memory c) (omega (arith, length_area w c start memory at)) in
           rw q (take_none (ring_of rings c).count)
 
       counted : 0 < w → blocks_in w memory rings c ≡ []
@@ -131,11 +131,11 @@ module _ (w c start : ℕ) (memory : List Block) (rings : List Ring) (at : AreaA
   first_read d n h =
       let p : place_at (ring_of rings c).first w 0 < w = place_below (ring_of rings c).first w 0 h in
       let g : get_or order 0 d ≡ get_or memory (start + place_at (ring_of rings c).first w 0) d =
-      turned-get (area_of w memory c) w (length-area w c start memory at) (ring_of rings c).first 0 d h
-      ∙ ap (λ (l : List Block). get_or l (place_at (ring_of rings c).first w 0) d) (area-is w c start memory at)
+      turned_get (area_of w memory c) w (length_area w c start memory at) (ring_of rings c).first 0 d h
+      ∙ ap (λ (l : List Block). get_or l (place_at (ring_of rings c).first w 0) d) (area_is w c start memory at)
       ∙ get_or-take w (drop start memory) (place_at (ring_of rings c).first w 0) d p
       ∙ get_or-drop start memory (place_at (ring_of rings c).first w 0) d in
-      ap Some (sym g) ∙ first_of_take (ring_of rings c).count order d n (omega (arith, order-length))
+      ap Some (sym g) ∙ first_of_take (ring_of rings c).count order d n (omega (arith, order_length))
 
   -- a ring moved on by one, with one block less
   first_taken : c - 1 < length rings → (n : ℕ) → n ≡ min (ring_of rings c).count w → 0 < n → blocks_in w memory (set rings (c - 1) (moved_on w n (ring_of rings c))) ≡ taken c (blocks_in w memory rings)
@@ -143,25 +143,25 @@ module _ (w c start : ℕ) (memory : List Block) (rings : List Ring) (at : AreaA
     where
       own : blocks_in w memory (set rings (c - 1) (moved_on w n (ring_of rings c))) c ≡ rest_of (blocks_in w memory rings c)
       own =
-          let g = own-ring (moved_on w n (ring_of rings c)) among in
-          let t : turned (place_at (ring_of rings c).first w 1) (area_of w memory c) ≡ drop 1 order ++ take 1 order = turned-next (area_of w memory c) w (length-area w c start memory at) (ring_of rings c).first (omega arith) in
+          let g = own_ring (moved_on w n (ring_of rings c)) among in
+          let t : turned (place_at (ring_of rings c).first w 1) (area_of w memory c) ≡ drop 1 order ++ take 1 order = turned_next (area_of w memory c) w (length_area w c start memory at) (ring_of rings c).first (omega arith) in
           ap (λ (r : Ring). take r.count (turned r.first (area_of w memory c))) g
           ∙ ap (take (n - 1)) t
-          ∙ rest_of_take (ring_of rings c).count n order (omega arith) (omega (arith, order-length)) (omega (arith, order-length))
+          ∙ rest_of_take (ring_of rings c).count n order (omega arith) (omega (arith, order_length)) (omega (arith, order_length))
 
       go : (k : ℕ) (t : Bool) → eqb k c ≡ t → blocks_in w memory (set rings (c - 1) (moved_on w n (ring_of rings c))) k ≡ cond (eqb k c) (rest_of (blocks_in w memory rings c)) (blocks_in w memory rings k)
       go k true q = rw (q, eqb-true k c q) own
       go k false q = rw q (other_kept w memory memory rings (moved_on w n (ring_of rings c)) c k one q refl refl)
 
   -- its place is free for the client
-  first-freed : c - 1 < length rings → (n : ℕ) → n ≡ min (ring_of rings c).count w → 0 < n → holding_in w memory (set rings (c - 1) (moved_on w n (ring_of rings c))) ≡ after_next c (holding_in w memory rings)
-  first-freed among n e h = holding_by _ _ _ _ (first_taken among n e h) (fun_ext (λ k. go k (eqb k c) refl))
+  first_freed : c - 1 < length rings → (n : ℕ) → n ≡ min (ring_of rings c).count w → 0 < n → holding_in w memory (set rings (c - 1) (moved_on w n (ring_of rings c))) ≡ after_next c (holding_in w memory rings)
+  first_freed among n e h = holding_by _ _ _ _ (first_taken among n e h) (fun_ext (λ k. go k (eqb k c) refl))
     where
       some : given (first_of (blocks_in w memory rings c)) ≡ 1
-      some = one_given (blocks_in w memory rings c) (simp length-take (omega (arith, order-length)))
+      some = one_given (blocks_in w memory rings c) (simp length-take (omega (arith, order_length)))
 
       go : (k : ℕ) (t : Bool) → eqb k c ≡ t → free_in w (length memory) (set rings (c - 1) (moved_on w n (ring_of rings c))) k ≡ free_in w (length memory) rings k + cond (eqb k c) (given (first_of (blocks_in w memory rings c))) 0
-      go k true q = rw (q, some, eqb-true k c q, own-ring (moved_on w n (ring_of rings c)) among, at.width) (omega arith)
+      go k true q = rw (q, some, eqb-true k c q, own_ring (moved_on w n (ring_of rings c)) among, at.width) (omega arith)
       go k false q = rw q (other_free w (length memory) rings (moved_on w n (ring_of rings c)) c k one q ∙ omega arith)
 
   -- a pair written behind the client's last block, where two places are free
@@ -170,7 +170,7 @@ module _ (w c start : ℕ) (memory : List Block) (rings : List Ring) (at : AreaA
     record {
       room = rw at.width (omega arith);
       appended = fun_ext (λ k. lists k (eqb k c) refl);
-      places = rw (own-ring (grown (ring_of rings c)) among, long, at.width) (omega arith);
+      places = rw (own_ring (grown (ring_of rings c)) among, long, at.width) (omega arith);
     },
     holding_by _ _ _ _ (fun_ext (λ k. lists k (eqb k c) refl)) (fun_ext (λ k. free k (eqb k c) refl)),
   )
@@ -179,11 +179,11 @@ module _ (w c start : ℕ) (memory : List Block) (rings : List Ring) (at : AreaA
       long = simp length-set
 
       free : (k : ℕ) (t : Bool) → eqb k c ≡ t → free_in w (length (written w start memory (ring_of rings c) a b)) (set rings (c - 1) (grown (ring_of rings c))) k ≡ free_in w (length memory) rings k - cond (eqb k c) 2 0
-      free k true q = rw (q, eqb-true k c q, own-ring (grown (ring_of rings c)) among, long, at.width) (omega arith)
+      free k true q = rw (q, eqb-true k c q, own_ring (grown (ring_of rings c)) among, long, at.width) (omega arith)
       free k false q = rw (q, long) (other_free w (length memory) rings (grown (ring_of rings c)) c k one q ∙ omega arith)
 
-      at-half : AreaAt w (length (set memory (start + place_at (ring_of rings c).first w (ring_of rings c).count) a)) c start
-      at-half = rw (length-set memory (start + place_at (ring_of rings c).first w (ring_of rings c).count) a) at
+      at_half : AreaAt w (length (set memory (start + place_at (ring_of rings c).first w (ring_of rings c).count) a)) c start
+      at_half = rw (length-set memory (start + place_at (ring_of rings c).first w (ring_of rings c).count) a) at
 
       fit : place_at (ring_of rings c).first w (ring_of rings c).count < w
       fit = place_below (ring_of rings c).first w (ring_of rings c).count (omega arith)
@@ -193,51 +193,51 @@ module _ (w c start : ℕ) (memory : List Block) (rings : List Ring) (at : AreaA
 
       area : area_of w (written w start memory (ring_of rings c) a b) c ≡ set (set (area_of w memory c) (place_at (ring_of rings c).first w (ring_of rings c).count) a) (place_at (ring_of rings c).first w ((ring_of rings c).count + 1)) b
       area =
-          area_set w c start (set memory (start + place_at (ring_of rings c).first w (ring_of rings c).count) a) at-half (place_at (ring_of rings c).first w ((ring_of rings c).count + 1)) b fit_next
+          area_set w c start (set memory (start + place_at (ring_of rings c).first w (ring_of rings c).count) a) at_half (place_at (ring_of rings c).first w ((ring_of rings c).count + 1)) b fit_next
           ∙ ap (λ (l : List Block). set l (place_at (ring_of rings c).first w ((ring_of rings c).count + 1)) b) (area_set w c start memory at (place_at (ring_of rings c).first w (ring_of rings c).count) a fit)
 
-      half-area : length (set (area_of w memory c) (place_at (ring_of rings c).first w (ring_of rings c).count) a) ≡ w
-      half-area = simp length-set (length-area w c start memory at)
+      half_area : length (set (area_of w memory c) (place_at (ring_of rings c).first w (ring_of rings c).count) a) ≡ w
+      half_area = simp length-set (length_area w c start memory at)
 
       in_order : turned (ring_of rings c).first (area_of w (written w start memory (ring_of rings c) a b) c) ≡ set (set order (ring_of rings c).count a) ((ring_of rings c).count + 1) b
       in_order =
           ap (turned (ring_of rings c).first) area
-          ∙ turned_set (set (area_of w memory c) (place_at (ring_of rings c).first w (ring_of rings c).count) a) w half-area (ring_of rings c).first ((ring_of rings c).count + 1) b (omega arith)
-          ∙ ap (λ (l : List Block). set l ((ring_of rings c).count + 1) b) (turned_set (area_of w memory c) w (length-area w c start memory at) (ring_of rings c).first (ring_of rings c).count a (omega arith))
+          ∙ turned_set (set (area_of w memory c) (place_at (ring_of rings c).first w (ring_of rings c).count) a) w half_area (ring_of rings c).first ((ring_of rings c).count + 1) b (omega arith)
+          ∙ ap (λ (l : List Block). set l ((ring_of rings c).count + 1) b) (turned_set (area_of w memory c) w (length_area w c start memory at) (ring_of rings c).first (ring_of rings c).count a (omega arith))
 
       own : blocks_in w (written w start memory (ring_of rings c) a b) (set rings (c - 1) (grown (ring_of rings c))) c ≡ blocks_in w memory rings c ++ (a ∷ b ∷ [])
       own =
           let two : (ring_of rings c).count + 2 ≡ ((ring_of rings c).count + 1) + 1 = omega arith in
-          ap (λ (r : Ring). take r.count (turned r.first (area_of w (written w start memory (ring_of rings c) a b) c))) (own-ring (grown (ring_of rings c)) among)
+          ap (λ (r : Ring). take r.count (turned r.first (area_of w (written w start memory (ring_of rings c) a b) c))) (own_ring (grown (ring_of rings c)) among)
           ∙ ap (take ((ring_of rings c).count + 2)) in_order
           ∙ ap (λ (m : ℕ). take m (set (set order (ring_of rings c).count a) ((ring_of rings c).count + 1) b)) two
-          ∙ take_more_set (set order (ring_of rings c).count a) ((ring_of rings c).count + 1) b (simp length-set (omega (arith, order-length)))
-          ∙ ap (λ (l : List Block). l ++ (b ∷ [])) (take_more_set order (ring_of rings c).count a (omega (arith, order-length)))
+          ∙ take_more_set (set order (ring_of rings c).count a) ((ring_of rings c).count + 1) b (simp length-set (omega (arith, order_length)))
+          ∙ ap (λ (l : List Block). l ++ (b ∷ [])) (take_more_set order (ring_of rings c).count a (omega (arith, order_length)))
           ∙ append_assoc (take (ring_of rings c).count order) (a ∷ []) (b ∷ [])
 
       kept : (k : ℕ) → eqb k c ≡ false → area_of w (written w start memory (ring_of rings c) a b) k ≡ area_of w memory k
       kept k q =
-          area-kept w c start (set memory (start + place_at (ring_of rings c).first w (ring_of rings c).count) a) at-half (place_at (ring_of rings c).first w ((ring_of rings c).count + 1)) b k fit_next one q
-          ∙ area-kept w c start memory at (place_at (ring_of rings c).first w (ring_of rings c).count) a k fit one q
+          area_kept w c start (set memory (start + place_at (ring_of rings c).first w (ring_of rings c).count) a) at_half (place_at (ring_of rings c).first w ((ring_of rings c).count + 1)) b k fit_next one q
+          ∙ area_kept w c start memory at (place_at (ring_of rings c).first w (ring_of rings c).count) a k fit one q
 
       lists : (k : ℕ) (t : Bool) → eqb k c ≡ t → blocks_in w (written w start memory (ring_of rings c) a b) (set rings (c - 1) (grown (ring_of rings c))) k ≡ cond (eqb k c) (blocks_in w memory rings c ++ (a ∷ b ∷ [])) (blocks_in w memory rings k)
       lists k true q = rw (q, eqb-true k c q) own
       lists k false q = rw q (other_kept w memory (written w start memory (ring_of rings c) a b) rings (grown (ring_of rings c)) c k one q long (kept k q))
 
   -- the same, over what the calls answer
-  pub first-read-by : (r : Ring) (i : ℕ) (d : Block) → r ≡ ring_of rings c → i ≡ place_at r.first w 0 → 0 < min r.count w → Some (get_or memory (start + i) d) ≡ first_of (blocks_in w memory rings c)
-  first-read-by r i d e f h =
+  pub first_read_by : (r : Ring) (i : ℕ) (d : Block) → r ≡ ring_of rings c → i ≡ place_at r.first w 0 → 0 < min r.count w → Some (get_or memory (start + i) d) ≡ first_of (blocks_in w memory rings c)
+  first_read_by r i d e f h =
       let n : (ring_of rings c).count ≡ r.count = ap (λ (r : Ring). r.count) (sym e) in
       ap (λ (j : ℕ). Some (get_or memory (start + j) d)) (f ∙ ap (λ (r : Ring). place_at r.first w 0) e) ∙ first_read d (omega arith) (omega arith)
 
-  pub first-freed-by : c - 1 < length rings → (r : Ring) (i j n : ℕ) → r ≡ ring_of rings c → i ≡ c → j ≡ place_at r.first w 1 → n ≡ min r.count w → 0 < n → holding_in w memory (set rings (i - 1) (record { first = j; count = n - 1 })) ≡ after_next c (holding_in w memory rings)
-  first-freed-by among r i j n e q f m h =
+  pub first_freed_by : c - 1 < length rings → (r : Ring) (i j n : ℕ) → r ≡ ring_of rings c → i ≡ c → j ≡ place_at r.first w 1 → n ≡ min r.count w → 0 < n → holding_in w memory (set rings (i - 1) (record { first = j; count = n - 1 })) ≡ after_next c (holding_in w memory rings)
+  first_freed_by among r i j n e q f m h =
       let p : j ≡ place_at (ring_of rings c).first w 1 = f ∙ ap (λ (r : Ring). place_at r.first w 1) e in
       let g : set rings (i - 1) (record { first = j; count = n - 1 }) ≡ set rings (c - 1) (moved_on w n (ring_of rings c)) = cc in
-      ap (holding_in w memory) g ∙ first-freed among n (m ∙ ap (λ (r : Ring). min r.count w) e) h
+      ap (holding_in w memory) g ∙ first_freed among n (m ∙ ap (λ (r : Ring). min r.count w) e) h
 
-  pub pair-put-by : c - 1 < length rings → (r : Ring) (i p q : ℕ) (a b : Block) → r ≡ ring_of rings c → i ≡ c → p ≡ place_at r.first w r.count → q ≡ place_at r.first w (r.count + 1) → r.count + 2 ≤ w → Accepted c a b (holding_in w memory rings) (holding_in w (set (set memory (start + p) a) (start + q) b) (set rings (i - 1) (record { first = r.first; count = r.count + 2 }))) × (holding_in w (set (set memory (start + p) a) (start + q) b) (set rings (i - 1) (record { first = r.first; count = r.count + 2 })) ≡ after_put (Ok tt) c a b (holding_in w memory rings))
-  pair-put-by among r i p q a b e s f g h =
+  pub pair_put_by : c - 1 < length rings → (r : Ring) (i p q : ℕ) (a b : Block) → r ≡ ring_of rings c → i ≡ c → p ≡ place_at r.first w r.count → q ≡ place_at r.first w (r.count + 1) → r.count + 2 ≤ w → Accepted c a b (holding_in w memory rings) (holding_in w (set (set memory (start + p) a) (start + q) b) (set rings (i - 1) (record { first = r.first; count = r.count + 2 }))) × (holding_in w (set (set memory (start + p) a) (start + q) b) (set rings (i - 1) (record { first = r.first; count = r.count + 2 })) ≡ after_put (Ok tt) c a b (holding_in w memory rings))
+  pair_put_by among r i p q a b e s f g h =
       let n : (ring_of rings c).count ≡ r.count = ap (λ (r : Ring). r.count) (sym e) in
       let u : set (set memory (start + p) a) (start + q) b ≡ written w start memory (ring_of rings c) a b = ap (λ (j : ℕ). set (set memory (start + j) a) (start + q) b) f ∙ ap (λ (j : ℕ). set (set memory (start + place_at r.first w r.count) a) (start + j) b) g ∙ ap (λ (r : Ring). written w start memory r a b) e in
       let v : set rings (i - 1) (grown r) ≡ set rings (c - 1) (grown (ring_of rings c)) = ap (λ (j : ℕ). set rings (j - 1) (grown r)) s ∙ ap (λ (r : Ring). set rings (c - 1) (grown r)) e in

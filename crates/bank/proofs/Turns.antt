@@ -34,8 +34,8 @@ place_below first w i h = go (start_of first w) (start_below first w (omega arit
     go s b false e = omega arith
 
 module _ {X : Type 0} (a : List X) (w : ℕ) (n : length a ≡ w) where
-  set-from : (s i : ℕ) (x : X) → s < w → i < w → turned s (set a (place_from s w i) x) ≡ set (turned s a) i x
-  set-from s i x b h = go (ltb i (w - s)) refl
+  set_from : (s i : ℕ) (x : X) → s < w → i < w → turned s (set a (place_from s w i) x) ≡ set (turned s a) i x
+  set_from s i x b h = go (ltb i (w - s)) refl
     where
       len : length (drop s a) ≡ w - s
       len = simp length-drop (omega arith)
@@ -65,8 +65,8 @@ module _ {X : Type 0} (a : List X) (w : ℕ) (n : length a ≡ w) where
           let l : w - s ≤ i = ltb-false i (w - s) e in
           get_or-append_right (drop s a) (take s a) (w - s) i d len l ∙ get_or-take s a (i - (w - s)) d (omega arith)
 
-  next-from : (s : ℕ) → s < w → turned (place_from s w 1) a ≡ drop 1 (turned s a) ++ take 1 (turned s a)
-  next-from s b = go (ltb 1 (w - s)) refl ∙ step a s (omega arith)
+  next_from : (s : ℕ) → s < w → turned (place_from s w 1) a ≡ drop 1 (turned s a) ++ take 1 (turned s a)
+  next_from s b = go (ltb 1 (w - s)) refl ∙ step a s (omega arith)
     where
       step : (a : List X) (s : ℕ) → s < length a → turned (s + 1) a ≡ drop 1 (turned s a) ++ take 1 (turned s a)
       step [] s b = absurd (omega arith)
@@ -86,11 +86,11 @@ module _ {X : Type 0} (a : List X) (w : ℕ) (n : length a ≡ w) where
 
   -- a block written at the place of index i is the ring's entry at i
   pub turned_set : (first i : ℕ) (x : X) → i < w → turned first (set a (place_at first w i) x) ≡ set (turned first a) i x
-  turned_set first i x h = turned_start first w (set a (place_at first w i) x) (length-set a (place_at first w i) x ∙ n) ∙ set-from (start_of first w) i x (start_below first w (omega arith)) h ∙ ap (λ l. set l i x) (sym (turned_start first w a n))
+  turned_set first i x h = turned_start first w (set a (place_at first w i) x) (length-set a (place_at first w i) x ∙ n) ∙ set_from (start_of first w) i x (start_below first w (omega arith)) h ∙ ap (λ l. set l i x) (sym (turned_start first w a n))
 
-  pub turned-get : (first i : ℕ) (d : X) → i < w → get_or (turned first a) i d ≡ get_or a (place_at first w i) d
-  turned-get first i d h = ap (λ l. get_or l i d) (turned_start first w a n) ∙ get_from (start_of first w) i d (start_below first w (omega arith)) h
+  pub turned_get : (first i : ℕ) (d : X) → i < w → get_or (turned first a) i d ≡ get_or a (place_at first w i) d
+  turned_get first i d h = ap (λ l. get_or l i d) (turned_start first w a n) ∙ get_from (start_of first w) i d (start_below first w (omega arith)) h
 
   -- a ring that starts at the place of index 1 is the ring moved on by one
-  pub turned-next : (first : ℕ) → 0 < w → turned (place_at first w 1) a ≡ drop 1 (turned first a) ++ take 1 (turned first a)
-  turned-next first h = next-from (start_of first w) (start_below first w h) ∙ ap (λ l. drop 1 l ++ take 1 l) (sym (turned_start first w a n))
+  pub turned_next : (first : ℕ) → 0 < w → turned (place_at first w 1) a ≡ drop 1 (turned first a) ++ take 1 (turned first a)
+  turned_next first h = next_from (start_of first w) (start_below first w h) ∙ ap (λ l. drop 1 l ++ take 1 l) (sym (turned_start first w a n))

@@ -36,45 +36,45 @@ module _ (w G n : ℕ) (good : Detecting w G n) where
       go (suc v) e = omega arith
 
   -- only 0 is shifted to 0, so a shift loses nothing
-  zero-shift : (r : ℕ) → step w G r false ≡ 0 → r ≡ 0
-  zero-shift r e = shift_zero w G r positive good.constant e
+  zero_shift : (r : ℕ) → step w G r false ≡ 0 → r ≡ 0
+  zero_shift r e = shift_zero w G r positive good.constant e
 
-  same-shift : (r s : ℕ) → step w G r false ≡ step w G s false → r ≡ s
-  same-shift r s e =
+  same_shift : (r s : ℕ) → step w G r false ≡ step w G s false → r ≡ s
+  same_shift r s e =
       xor_over r s 0
-      (zero-shift (bit_xor r s)
+      (zero_shift (bit_xor r s)
       (step_xor w G r s false false ∙ ap (λ (x : ℕ). bit_xor x (step w G s false)) e ∙ xor_self (step w G s false)))
 
   -- no more changes: a register that is not 0 stays so
   stays : (e : List Bool) (r : ℕ) → weight e ≡ 0 → run w G r e ≡ 0 → r ≡ 0
   stays [] r h z = z
   stays (true ∷ e) r h z = absurd (omega arith)
-  stays (false ∷ e) r h z = zero-shift r (stays e (step w G r false) h z)
+  stays (false ∷ e) r h z = zero_shift r (stays e (step w G r false) h z)
 
   -- below the degree x ^ k is itself, and x ^ w is what one bit leaves
-  low-power : (k : ℕ) → k < w → power w G k ≡ 2 ^ k
+  low_power : (k : ℕ) → k < w → power w G k ≡ 2 ^ k
   unfolding step
-  low-power zero h = refl
-  low-power (suc k) h =
-      ap (λ (x : ℕ). reduce w G (bit_xor (x * 2) 0)) (low-power k (omega arith))
+  low_power zero h = refl
+  low_power (suc k) h =
+      ap (λ (x : ℕ). reduce w G (bit_xor (x * 2) 0)) (low_power k (omega arith))
       ∙ ap (reduce w G) (xor_zero_r (2 ^ k * 2) ∙ sym (pow-suc 2 k))
       ∙ reduce_small w G (2 ^ suc k) (pow-lt h)
 
-  first-power : step w G 0 true ≡ power w G w
+  first_power : step w G 0 true ≡ power w G w
   unfolding step
-  first-power = go w refl positive
+  first_power = go w refl positive
     where
       go : (v : ℕ) → v ≡ w → 0 < v → reduce w G (2 ^ w) ≡ power w G v
       go zero e h = absurd (omega arith)
       go (suc v) e h =
           ap (reduce w G) (ap (λ (x : ℕ). 2 ^ x) (sym e) ∙ pow-suc 2 v ∙ sym (xor_zero_r (2 ^ v * 2)))
-          ∙ sym (ap (λ (x : ℕ). reduce w G (bit_xor (x * 2) 0)) (low-power v (omega arith)))
+          ∙ sym (ap (λ (x : ℕ). reduce w G (bit_xor (x * 2) 0)) (low_power v (omega arith)))
 
   -- x may be taken out of both sides
   cancel : (i j : ℕ) → power w G (i + j) ≡ power w G i → power w G j ≡ 1
   cancel zero j e = ap (power w G) (sym (zero-add j)) ∙ e
   cancel (suc i) j e =
-      cancel i j (same-shift (power w G (i + j)) (power w G i) (sym (ap (power w G) (suc-add i j)) ∙ e))
+      cancel i j (same_shift (power w G (i + j)) (power w G i) (sym (ap (power w G) (suc-add i j)) ∙ e))
 
   -- a second change, j places behind the first, brings the register back to 0 only if x ^ j is 1
   returns : (k : ℕ) → step w G (power w G (w + k)) true ≡ 0 → power w G (suc k) ≡ 1
@@ -84,7 +84,7 @@ module _ (w G n : ℕ) (good : Detecting w G n) where
       cancel w (suc k)
       (ap (power w G) (add-suc w k)
       ∙ xor_over (power w G (suc (w + k))) (step w G 0 true) 0 sum
-      ∙ first-power)
+      ∙ first_power)
 
   second : (e : List Bool) (k : ℕ) → weight e ≡ 1 → k + length e < n → run w G (power w G (w + k)) e ≡ 0 → ⊥
   second [] k h l z = absurd (omega arith)
@@ -97,7 +97,7 @@ module _ (w G n : ℕ) (good : Detecting w G n) where
   two [] h l z = absurd (omega arith)
   two (true ∷ e) h l z =
       second e 0 (omega arith) (omega arith)
-      (ap (λ (x : ℕ). run w G x e) (ap (power w G) (add-zero w) ∙ sym first-power) ∙ z)
+      (ap (λ (x : ℕ). run w G x e) (ap (power w G) (add-zero w) ∙ sym first_power) ∙ z)
   two (false ∷ e) h l z = two e h (omega arith) (sym (ap (λ (x : ℕ). run w G x e) (step_zero w G)) ∙ z)
 
   -- one or three changes leave an odd number of terms
@@ -114,26 +114,26 @@ module _ (w G n : ℕ) (good : Detecting w G n) where
       go (suc (suc (suc zero))) q = omega (arith, even)
       go (suc (suc (suc (suc m)))) q = omega arith
 
-  differ-zero : (s t : List Bool) → length s ≡ length t → remainder w G s ≡ 0 → remainder w G t ≡ 0 → remainder w G (xors s t) ≡ 0
-  differ-zero s t l p q = run_xor w G s t 0 0 l ∙ ap₂ bit_xor p q
+  differ_zero : (s t : List Bool) → length s ≡ length t → remainder w G s ≡ 0 → remainder w G t ≡ 0 → remainder w G (xors s t) ≡ 0
+  differ_zero s t l p q = run_xor w G s t 0 0 l ∙ ap₂ bit_xor p q
 
   trailing : (k r : ℕ) → run w G r (replicate k false) ≡ 0 → r ≡ 0
   trailing zero r z = z
-  trailing (suc k) r z = zero-shift r (trailing k (step w G r false) z)
+  trailing (suc k) r z = zero_shift r (trailing k (step w G r false) z)
 
-  burst-zero : (b : List Bool) → length b ≤ w → 0 < weight b → run w G 0 b ≡ 0 → ⊥
-  burst-zero b l h z =
+  burst_zero : (b : List Bool) → length b ≤ w → 0 < weight b → run w G 0 b ≡ 0 → ⊥
+  burst_zero b l h z =
       let e : 0 ≡ value b * 2 ^ (w - length b) = back w G b (w - length b) 0 good.constant (omega arith) z in
       omega (arith, no_bits b (zero_factor (value b) (2 ^ (w - length b)) (pow_pos (w - length b)) (sym e)))
 
   few : Few w G n
-  few s t l b p q h k = pattern (xors s t) h k (omega (arith, length_xors s t l)) (differ-zero s t l p q)
+  few s t l b p q h k = pattern (xors s t) h k (omega (arith, length_xors s t l)) (differ_zero s t l p q)
 
   burst : Burst w G
   burst s t i k b l e lb wb p q =
-      let z : run w G 0 (b ++ replicate k false) ≡ 0 = sym (leading w G i (b ++ replicate k false)) ∙ ap (remainder w G) (sym e) ∙ differ-zero s t l p q in
+      let z : run w G 0 (b ++ replicate k false) ≡ 0 = sym (leading w G i (b ++ replicate k false)) ∙ ap (remainder w G) (sym e) ∙ differ_zero s t l p q in
       let z' : run w G (run w G 0 b) (replicate k false) ≡ 0 = sym (run-++ w G b (replicate k false) 0) ∙ z in
-      burst-zero b lb wb (trailing k (run w G 0 b) z')
+      burst_zero b lb wb (trailing k (run w G 0 b) z')
 
   pub detects : Detects w G n
   detects = (few, burst)

@@ -106,34 +106,34 @@ module _ (y : ℕ) (ys : List ℕ) (stop : digit y ≡ false) where
   end : (v : ℕ) → extended (v, y ∷ ys) ≡ (v, y ∷ ys)
   end v = extended_stops v (y ∷ ys) (leading_stops y ys stop)
 
-  reads-0 : number ((48 + 0) ∷ y ∷ ys) ≡ Some (0, y ∷ ys)
-  reads-0 = refl
+  reads_0 : number ((48 + 0) ∷ y ∷ ys) ≡ Some (0, y ∷ ys)
+  reads_0 = refl
 
-  reads-1 : (a : ℕ) → 1 ≤ a → a < 10 → number ((48 + a) ∷ y ∷ ys) ≡ Some (a, y ∷ ys)
-  reads-1 a l h = starts a (y ∷ ys) l h ∙ ap (λ p. Some (extended p)) (end a) ∙ ap Some (end a)
+  reads_1 : (a : ℕ) → 1 ≤ a → a < 10 → number ((48 + a) ∷ y ∷ ys) ≡ Some (a, y ∷ ys)
+  reads_1 a l h = starts a (y ∷ ys) l h ∙ ap (λ p. Some (extended p)) (end a) ∙ ap Some (end a)
 
-  reads-2 : (a b : ℕ) → 1 ≤ a → a < 10 → b < 10 → number ((48 + a) ∷ (48 + b) ∷ y ∷ ys) ≡ Some (10 * a + b, y ∷ ys)
-  reads-2 a b l h k = starts a ((48 + b) ∷ y ∷ ys) l h ∙ ap (λ p. Some (extended p)) (extended_reads a b (y ∷ ys) k) ∙ ap Some (end (10 * a + b))
+  reads_2 : (a b : ℕ) → 1 ≤ a → a < 10 → b < 10 → number ((48 + a) ∷ (48 + b) ∷ y ∷ ys) ≡ Some (10 * a + b, y ∷ ys)
+  reads_2 a b l h k = starts a ((48 + b) ∷ y ∷ ys) l h ∙ ap (λ p. Some (extended p)) (extended_reads a b (y ∷ ys) k) ∙ ap Some (end (10 * a + b))
 
-  reads-3 : (a b c : ℕ) → 1 ≤ a → a < 10 → b < 10 → c < 10 → number ((48 + a) ∷ (48 + b) ∷ (48 + c) ∷ y ∷ ys) ≡ Some (10 * (10 * a + b) + c, y ∷ ys)
-  reads-3 a b c l h k m =
+  reads_3 : (a b c : ℕ) → 1 ≤ a → a < 10 → b < 10 → c < 10 → number ((48 + a) ∷ (48 + b) ∷ (48 + c) ∷ y ∷ ys) ≡ Some (10 * (10 * a + b) + c, y ∷ ys)
+  reads_3 a b c l h k m =
       starts a ((48 + b) ∷ (48 + c) ∷ y ∷ ys) l h
       ∙ ap (λ p. Some (extended p)) (extended_reads a b ((48 + c) ∷ y ∷ ys) k)
       ∙ ap Some (extended_reads (10 * a + b) c (y ∷ ys) m)
 
-  pub number-reads : (n : ℕ) → n < 1000 → number (decimal n ++ y ∷ ys) ≡ Some (n, y ∷ ys)
-  number-reads n h =
+  pub number_reads : (n : ℕ) → n < 1000 → number (decimal n ++ y ∷ ys) ≡ Some (n, y ∷ ys)
+  number_reads n h =
       ⊎_elim
       (λ a. ap (λ t. number (t ++ y ∷ ys)) (decimal_1 n a)
-      ∙ ⊎_elim (λ z. ap (λ m. number ((48 + m) ∷ y ∷ ys)) z ∙ ap (λ m. Some (m, y ∷ ys)) (sym z)) (λ z. reads-1 n (omega arith) a) (cases_eq n 0))
+      ∙ ⊎_elim (λ z. ap (λ m. number ((48 + m) ∷ y ∷ ys)) z ∙ ap (λ m. Some (m, y ∷ ys)) (sym z)) (λ z. reads_1 n (omega arith) a) (cases_eq n 0))
       (λ a. ⊎_elim
       (λ b. let q : ℕ = n / 10 in let r : ℕ = n % 10 in
       let is : n ≡ 10 * q + r = omega arith in
       ap (λ m. number (decimal m ++ y ∷ ys)) is ∙ ap (λ t. number (t ++ y ∷ ys)) (decimal_2 q r (omega arith) (omega arith) (omega arith))
-      ∙ reads-2 q r (omega arith) (omega arith) (omega arith) ∙ ap (λ m. Some (m, y ∷ ys)) (sym is))
+      ∙ reads_2 q r (omega arith) (omega arith) (omega arith) ∙ ap (λ m. Some (m, y ∷ ys)) (sym is))
       (λ b. let q : ℕ = n / 100 in let s : ℕ = n / 10 % 10 in let r : ℕ = n % 10 in
       let is : n ≡ 10 * (10 * q + s) + r = omega arith in
       ap (λ m. number (decimal m ++ y ∷ ys)) is ∙ ap (λ t. number (t ++ y ∷ ys)) (decimal_3 q s r (omega arith) (omega arith) (omega arith) (omega arith))
-      ∙ reads-3 q s r (omega arith) (omega arith) (omega arith) (omega arith) ∙ ap (λ m. Some (m, y ∷ ys)) (sym is))
+      ∙ reads_3 q s r (omega arith) (omega arith) (omega arith) (omega arith) ∙ ap (λ m. Some (m, y ∷ ys)) (sym is))
       (cases_lt n 100))
       (cases_lt n 10)

@@ -7,7 +7,7 @@ use Rattle.std.proofs.lemmas.Slice.Eq.{bytes_eq-Decides}
 use Rattle.form.specs.Lease.{Group, Lease, decimal, group_text, groups_text, lease_text, ShortGroups, SomeGroup, Writable}
 use Rattle.form.specs.Form.{bind, after, number, opening, group, closes, put_before, groups, form}
 use Rattle.form.proofs.Words.{never, after_append, after_is}
-use Rattle.form.proofs.Numbers.{bind_some, bind_at, number_is, number-reads}
+use Rattle.form.proofs.Numbers.{bind_some, bind_at, number_is, number_reads}
 
 same_group : (a b : ℕ) (t ys : List ℕ) (g : Group) → ◌≡◌ {A = Option (Group × List ℕ)} (Some (record { first = a; last = b }, t)) (Some (g, ys)) → (a ≡ g.first) × (b ≡ g.last) × (t ≡ ys)
 same_group a b t ys g e =
@@ -63,9 +63,9 @@ group_reads g ys h k =
     let t3 : List ℕ = decimal g.last ++ (codes ")" ++ ys) in
     ap group (regroup g ys)
     ∙ bind_at (after (codes " (slots ") (codes " (slots " ++ t1)) from_first t1 (after_append (codes " (slots ") t1)
-    ∙ bind_at (number t1) from_blank (g.first, codes " " ++ t3) (number-reads 32 t3 refl g.first h)
+    ∙ bind_at (number t1) from_blank (g.first, codes " " ++ t3) (number_reads 32 t3 refl g.first h)
     ∙ bind_at (after (codes " ") (codes " " ++ t3)) (from_last g.first) t3 (after_append (codes " ") t3)
-    ∙ bind_at (number t3) (from_bracket g.first) (g.last, codes ")" ++ ys) (number-reads 41 ys refl g.last k)
+    ∙ bind_at (number t3) (from_bracket g.first) (g.last, codes ")" ++ ys) (number_reads 41 ys refl g.last k)
     ∙ bind_at (after (codes ")") (codes ")" ++ ys)) (λ rest. Some (g, rest)) ys (after_append (codes ")") ys)
 
 pub group_shorter : (xs ys : List ℕ) (g : Group) → group xs ≡ Some (g, ys) → length ys < length xs
@@ -161,7 +161,7 @@ reads_by c (g ∷ gs) n s h =
     let rest : List ℕ = groups_text (g ∷ gs) ++ codes ")" in
     let text : List ℕ = decimal c ++ rest in
     let opens : opening (codes "(client " ++ text) ≡ Some (c, rest) =
-    bind_at (after (codes "(client ") (codes "(client " ++ text)) number text (after_append (codes "(client ") text) ∙ number-reads 32 (drop 1 rest) refl c n in
+    bind_at (after (codes "(client ") (codes "(client " ++ text)) number text (after_append (codes "(client ") text) ∙ number_reads 32 (drop 1 rest) refl c n in
     bind_at (opening (codes "(client " ++ text)) lease_by (c, rest) opens
     ∙ bind_at (groups (length rest) rest) (λ hs. Some (record { client = c; groups = hs })) (g ∷ gs) (groups_read (length rest) (g ∷ gs) s h (groups_short (g ∷ gs) (codes ")")))
 

@@ -108,11 +108,11 @@ last_filled vs r w x tail h ex hx hr er hw ew et =
 -- ---- filled values: the bits that were given, and the remainder
 split_take : {X : Type 0} (m k : ℕ) (xs : List X) → take (m + k) xs ≡ take m xs ++ take k (drop m xs)
 split_take zero k xs = ap (λ (n : ℕ). take n xs) (zero-add k)
-split_take (suc m) k [] = ap (λ (n : ℕ). take n []) (let e : suc m + k ≡ suc (m + k) = omega arith in e) ∙ sym (take-nil k)
+split_take (suc m) k [] = ap (λ (n : ℕ). take n []) (let e : suc m + k ≡ suc (m + k) = omega arith in e) ∙ sym (take_nil k)
   where
-    take-nil : {X : Type 0} (k : ℕ) → take {A = X} k [] ≡ []
-    take-nil zero = refl
-    take-nil (suc k) = refl
+    take_nil : {X : Type 0} (k : ℕ) → take {A = X} k [] ≡ []
+    take_nil zero = refl
+    take_nil (suc k) = refl
 split_take {X} (suc m) k (x ∷ xs) =
     ap (λ (n : ℕ). take n (x ∷ xs)) (let e : suc m + k ≡ suc (m + k) = omega arith in e)
     ∙ ap (λ (l : List X). x ∷ l) (split_take m k xs)

@@ -48,10 +48,10 @@ module _ (f : Fields) (w b0 b1 b2 b3 : ℕ) (t : Turned f w b0 b1 b2 b3) where
           (ap (high_first 7) e)
 
   -- so these are the bytes that are sent as these bits
-  pub bytes-written : (x : ℕ) → x < 256 → bits (b0 ∷ b1 ∷ b2 ∷ b3 ∷ 0 ∷ 0 ∷ x ∷ []) ≡ overhead_bits f
+  pub bytes_written : (x : ℕ) → x < 256 → bits (b0 ∷ b1 ∷ b2 ∷ b3 ∷ 0 ∷ 0 ∷ x ∷ []) ≡ overhead_bits f
       → ◌≡◌ {A = List ℕ} (b0 ∷ b1 ∷ b2 ∷ b3 ∷ 0 ∷ 0 ∷ x ∷ []) (overhead_bytes f)
   unfolding overhead_bytes
-  bytes-written x h e = sym (numbered.packs (b0 ∷ b1 ∷ b2 ∷ b3 ∷ 0 ∷ 0 ∷ x ∷ []) fits) ∙ ap (packed 7) e
+  bytes_written x h e = sym (numbered.packs (b0 ∷ b1 ∷ b2 ∷ b3 ∷ 0 ∷ 0 ∷ x ∷ []) fits) ∙ ap (packed 7) e
     where
       fits : (i : ℕ) → i < 7 → get_or (b0 ∷ b1 ∷ b2 ∷ b3 ∷ 0 ∷ 0 ∷ x ∷ []) i 0 < 256
       fits zero l = t.bytes.0

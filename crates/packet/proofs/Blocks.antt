@@ -100,11 +100,11 @@ module _ (p : List ℕ) (place : ℕ) where
   behind : 0 < place → slice_get (blocks_of p) place ≡ slice_get (data_blocks (length p / 8) p ++ (end_block (drop (8 * (length p / 8)) p) ∷ idle_block ∷ [])) (place - 1)
   behind l = let e : place ≡ suc (place - 1) = omega arith in ap (slice_get (blocks_of p)) e ∙ rw (blocks_are p) refl
 
-  pub at-opening : place ≡ 0 → Some opening ≡ slice_get (blocks_of p) place
-  at-opening e = rw (blocks_are p, e) refl
+  pub at_opening : place ≡ 0 → Some opening ≡ slice_get (blocks_of p) place
+  at_opening e = rw (blocks_are p, e) refl
 
-  pub at-data : 0 < place → place - 1 < length p / 8 → (b : Block) → b ≡ data_block (take 8 (drop (8 * (place - 1)) p)) → Some b ≡ slice_get (blocks_of p) place
-  at-data l k b e = ap Some e ∙ sym (behind l ∙ nth_data (length p / 8) (place - 1) p _ k)
+  pub at_data : 0 < place → place - 1 < length p / 8 → (b : Block) → b ≡ data_block (take 8 (drop (8 * (place - 1)) p)) → Some b ≡ slice_get (blocks_of p) place
+  at_data l k b e = ap Some e ∙ sym (behind l ∙ nth_data (length p / 8) (place - 1) p _ k)
 
   pub at_last : 0 < place → length p / 8 ≤ place - 1 → slice_get (blocks_of p) place ≡ slice_get (end_block (drop (8 * (length p / 8)) p) ∷ idle_block ∷ []) (place - 1 - length p / 8)
   at_last l k =

@@ -112,8 +112,8 @@ module _ (bs : List Block) (n k : ℕ) (d : Block) (l : n < length bs) (w : Walk
       let long = spanned_long bs n k d l w g f in
       record { is = ap sized (ended bs n k d l w e) ∙ sized_in (spanned bs n k) (8 * n + k) (n + 1) long t; long = long; inside = l; few = f }
 
-  pub none-sized : false ≡ in_range (8 * n + k) → sized (carried bs) ≡ None
-  none-sized t =
+  pub none_sized : false ≡ in_range (8 * n + k) → sized (carried bs) ≡ None
+  none_sized t =
       ap sized (ended bs n k d l w e) ∙ sized_out (spanned bs n k) (8 * n + k) (n + 1) (spanned_long bs n k d l w g (end_few (get_or bs n d) k e)) t
 
 carried_other : (b : Block) (bs : List Block) → (class_of b ≡ Data → ⊥) → ((n : ℕ) → class_of b ≡ End n → ⊥) → carried (b ∷ bs) ≡ None

@@ -107,5 +107,5 @@ module _ (blocks : List Block) (p : List ℕ) (bytes used places : ℕ) (found :
   pub answer_read : bytes ≤ places → Ok (bytes, used) ≡ read_answer (packet_at blocks) places
   answer_read l = rw (found, long, le-leb bytes places l) refl
 
-  pub output-read : (before after : List ℕ) → after ≡ p ++ drop bytes before → after ≡ over (bytes_of (packet_at blocks)) before
-  output-read before after e = rw (found, long) e
+  pub output_read : (before after : List ℕ) → after ≡ p ++ drop bytes before → after ≡ over (bytes_of (packet_at blocks)) before
+  output_read before after e = rw (found, long) e

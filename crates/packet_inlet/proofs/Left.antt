@@ -59,11 +59,11 @@ module _ (lengths bytes : List ℕ) (d : ℕ) (l : 0 < length lengths) (packet r
   opened : blocks_of_all lengths bytes ≡ opening ∷ (drop 1 (blocks_of packet) ++ blocks_of_all (drop 1 lengths) rest)
   opened = all_more lengths bytes d l ∙ rw (sym p, sym b) (rw (blocks_are packet) refl)
 
-  pub opened-first : (r : Option Block) → r ≡ slice_get (blocks_of packet) 0 → r ≡ first_of (blocks_of_all lengths bytes)
-  opened-first r e = e ∙ rw (opened, blocks_are packet) refl
+  pub opened_first : (r : Option Block) → r ≡ slice_get (blocks_of packet) 0 → r ≡ first_of (blocks_of_all lengths bytes)
+  opened_first r e = e ∙ rw (opened, blocks_are packet) refl
 
-  pub opened-rest : drop 1 (blocks_of packet) ++ blocks_of_all (drop 1 lengths) rest ≡ rest_of (blocks_of_all lengths bytes)
-  opened-rest = rw opened refl
+  pub opened_rest : drop 1 (blocks_of packet) ++ blocks_of_all (drop 1 lengths) rest ≡ rest_of (blocks_of_all lengths bytes)
+  opened_rest = rw opened refl
 
 -- the lists of an inlet for one client c, asked for that client
 pub own_list : (c k : ℕ) (l : List Block) → k ≡ c → only_for c l k ≡ l

@@ -38,17 +38,17 @@ module _ (lengths : List ℕ) (i left bytes : ℕ) (inv : are_lengths (drop i le
     here : are_lengths (get_or lengths i 0 ∷ drop (i + 1) lengths) left ≡ are_lengths lengths bytes
     here = ap (λ ls. are_lengths ls left) (sym (drop_more lengths i 0 l)) ∙ inv
 
-    pub lengths-more : true ≡ in_range (get_or lengths i 0) → get_or lengths i 0 ≤ left → are_lengths (drop (i + 1) lengths) (left - get_or lengths i 0) ≡ are_lengths lengths bytes
-    lengths-more t m = sym (one_more (get_or lengths i 0) (drop (i + 1) lengths) left t m) ∙ here
+    pub lengths_more : true ≡ in_range (get_or lengths i 0) → get_or lengths i 0 ≤ left → are_lengths (drop (i + 1) lengths) (left - get_or lengths i 0) ≡ are_lengths lengths bytes
+    lengths_more t m = sym (one_more (get_or lengths i 0) (drop (i + 1) lengths) left t m) ∙ here
 
-    pub lengths-out : false ≡ in_range (get_or lengths i 0) → false ≡ are_lengths lengths bytes
-    lengths-out t = sym (one_out (get_or lengths i 0) (drop (i + 1) lengths) left t) ∙ here
+    pub lengths_out : false ≡ in_range (get_or lengths i 0) → false ≡ are_lengths lengths bytes
+    lengths_out t = sym (one_out (get_or lengths i 0) (drop (i + 1) lengths) left t) ∙ here
 
     pub lengths_short : left < get_or lengths i 0 → false ≡ are_lengths lengths bytes
     lengths_short m = sym (one_short (get_or lengths i 0) (drop (i + 1) lengths) left m) ∙ here
 
-  pub lengths-all : length lengths ≤ i → eqb left 0 ≡ are_lengths lengths bytes
-  lengths-all l = none left ∙ ap (λ ls. are_lengths ls left) (sym (drop_all i lengths l)) ∙ inv
+  pub lengths_all : length lengths ≤ i → eqb left 0 ≡ are_lengths lengths bytes
+  lengths_all l = none left ∙ ap (λ ls. are_lengths ls left) (sym (drop_all i lengths l)) ∙ inv
 
 cut_whole : (lengths bytes : List ℕ) → sum lengths ≡ length bytes → (map length (packets_of lengths bytes) ≡ lengths) × (flat_map (λ p. p) (packets_of lengths bytes) ≡ bytes)
 unfolding packets_of

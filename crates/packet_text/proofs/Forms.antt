@@ -6,7 +6,7 @@ use Rattle.std.proofs.lemmas.List.{nil_from_length}
 use Rattle.std.proofs.lemmas.Bool.{cases_lt, cond-false, cond-true, eq-eqb, eqb-true, le-leb, le-ltb, lt-leb, lt-ltb, ne_eqb}
 use Rattle.form.specs.Form.{after, bind, number}
 use Rattle.form.specs.Lease as lease
-use Rattle.form.proofs.Numbers.{bind_at, bind_some, number_is, number-reads}
+use Rattle.form.proofs.Numbers.{bind_at, bind_some, number_is, number_reads}
 use Rattle.form.proofs.Words.{after_append, after_is, never}
 use Rattle.refusal.specs.declared.Refusal.TheVariants.{FormBroken, OutputTooShort}
 use Rattle.packet_text.specs.Hex.{all_hex, hex_bytes, hex_text, is_hex}
@@ -83,7 +83,7 @@ lines_read c bs small all =
     let rest = digits ++ (10 ∷ []) in
     let parts : line_parts (line_text c bs) ≡ Some (c, digits) =
     ap (λ t. line_parts (t ++ (32 ∷ rest))) (sym (same_decimal c small))
-    ∙ bind_at (number (lease.decimal c ++ (32 ∷ rest))) client_by (c, 32 ∷ rest) (number-reads 32 rest refl c small)
+    ∙ bind_at (number (lease.decimal c ++ (32 ∷ rest))) client_by (c, 32 ∷ rest) (number_reads 32 rest refl c small)
     ∙ bind_at (after (codes " ") (32 ∷ rest)) (rest_by c) rest (after_append (codes " ") rest)
     ∙ bind_at (ended rest) (digits_by c) digits (ended_push digits 10)
     ∙ cond-true (is_hex digits) (Some (c, digits)) None (hex_text_is bs all) in

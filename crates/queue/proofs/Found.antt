@@ -15,8 +15,8 @@ module _ {T : Type 0} (key : T → ℕ) (k : ℕ) where
   pub passed_none : (es : List T) → Passed 0 es
   passed_none es = record { first = refl; rest = refl }
 
-  pub passed-more : (es : List T) (i : ℕ) (d : T) → i < length es → Passed i es → (key (get_or es i d) ≡ k → ⊥) → Passed (i + 1) es
-  passed-more es i d h p n =
+  pub passed_more : (es : List T) (i : ℕ) (d : T) → i < length es → Passed i es → (key (get_or es i d) ≡ k → ⊥) → Passed (i + 1) es
+  passed_more es i d h p n =
       let e : eqb (key (get_or es i d)) k ≡ false = ne_eqb _ _ n in
       let u : drop i es ≡ get_or es i d ∷ drop (i + 1) es = drop_more es i d h in
       let t : take (i + 1) es ≡ take i es ++ (get_or es i d ∷ []) = take_more es i d h in
@@ -25,14 +25,14 @@ module _ {T : Type 0} (key : T → ℕ) (k : ℕ) where
         rest = p.rest ∙ (rw (u, e, t) (sym (append_assoc (take i es) (get_or es i d ∷ []) (without_first key k (drop (i + 1) es)))));
       }
 
-  pub passed-all : (es : List T) (i : ℕ) → length es ≤ i → Passed i es → NoneWith key k es
-  passed-all es i h p =
+  pub passed_all : (es : List T) (i : ℕ) → length es ≤ i → Passed i es → NoneWith key k es
+  passed_all es i h p =
       let u : drop i es ≡ [] = drop_all i es h in
       let t : take i es ≡ es = take_all i es h in
       record { first = p.first ∙ (rw u refl); rest = p.rest ∙ (rw (u, t) (append-nil es)) }
 
-  pub passed-found : (es : List T) (i : ℕ) (d : T) → i < length es → Passed i es → key (get_or es i d) ≡ k → FirstAt key k i es
-  passed-found es i d h p q =
+  pub passed_found : (es : List T) (i : ℕ) (d : T) → i < length es → Passed i es → key (get_or es i d) ≡ k → FirstAt key k i es
+  passed_found es i d h p q =
       let e : eqb (key (get_or es i d)) k ≡ true = eq-eqb _ _ q in
       let u : drop i es ≡ get_or es i d ∷ drop (i + 1) es = drop_more es i d h in
       record {

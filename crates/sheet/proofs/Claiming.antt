@@ -4,7 +4,7 @@ use Rattle.std.proofs.lemmas.Bool.{cond-true, cond-false, cases_Bool}
 use Rattle.form.specs.Lease.{Group}
 use Rattle.sheet.specs.Verdict.{Claim, claimed, claims, fits, give, used}
 use Rattle.sheet.specs.Laws.{Apart, GroupsInRange, HeldBy, Holds}
-use Rattle.sheet.proofs.Held.{at, held_or_not, holds_or_not, held_in_range, fits_in_range, in_range_fits, length-give, give-held, give-other, used_some, used_none}
+use Rattle.sheet.proofs.Held.{at, held_or_not, holds_or_not, held_in_range, fits_in_range, in_range_fits, length_give, give_held, give_other, used_some, used_none}
 
 pub false_true : false ≡ true → ⊥
 false_true e = let z : ◌≡◌ {A = ℕ} 0 1 = cc in omega arith
@@ -48,10 +48,10 @@ out_of_range c g s t = ap (λ (x : Claim). x.lawful) (cond-false (fits c g) (rec
 module _ (c : ℕ) (low : 1 ≤ c) (high : c ≤ 480) where
   module _ (g : Group) (gs : List Group) (s r : Claim) (room : length s.entries ≡ 480) (range : GroupsInRange (g ∷ gs)) (more : Came c gs (with_first c g s) r) where
     given : (k : ℕ) → Holds g k → at (give c g s.entries) k ≡ c
-    given k h = give-held c g s.entries room range.0 range.1 range.2 k h
+    given k h = give_held c g s.entries room range.0 range.1 range.2 k h
 
     beside : (k : ℕ) → 1 ≤ k → (Holds g k → ⊥) → at (give c g s.entries) k ≡ at s.entries k
-    beside k one h = give-other c g s.entries room range.0 range.1 range.2 k one h
+    beside k one h = give_other c g s.entries room range.0 range.1 range.2 k one h
 
     came_held : (k : ℕ) → HeldBy (g ∷ gs) k → at r.entries k ≡ c
     unfolding with_first
@@ -60,13 +60,13 @@ module _ (c : ℕ) (low : 1 ≤ c) (high : c ≤ 480) where
         (λ n. ⊎_elim (λ a. more.others k (let b = range.0 in omega arith) n ∙ given k a) (λ a. absurd (n a)) h)
         (held_or_not gs k)
 
-    came-others : (k : ℕ) → 1 ≤ k → (HeldBy (g ∷ gs) k → ⊥) → at r.entries k ≡ at s.entries k
+    came_others : (k : ℕ) → 1 ≤ k → (HeldBy (g ∷ gs) k → ⊥) → at r.entries k ≡ at s.entries k
     unfolding with_first
-    came-others k one n = more.others k one (λ a. n (inr a)) ∙ beside k one (λ a. n (inl a))
+    came_others k one n = more.others k one (λ a. n (inr a)) ∙ beside k one (λ a. n (inl a))
 
-    came-once : r.twice ≡ false → (s.twice ≡ false) × Free (g ∷ gs) s.entries × Apart (g ∷ gs)
+    came_once : r.twice ≡ false → (s.twice ≡ false) × Free (g ∷ gs) s.entries × Apart (g ∷ gs)
     unfolding with_first
-    came-once e =
+    came_once e =
         let o = more.once e in
         let t = nor s.twice (used g s.entries) o.0 in
         let clash : (k : ℕ) → Holds g k → HeldBy gs k → ⊥ = λ k h a. (let z = o.1 k a in let y = given k h in omega arith) in (
@@ -77,9 +77,9 @@ module _ (c : ℕ) (low : 1 ≤ c) (high : c ≤ 480) where
           (clash, o.2),
         )
 
-    came-stays : s.twice ≡ false → Free (g ∷ gs) s.entries → Apart (g ∷ gs) → r.twice ≡ false
+    came_stays : s.twice ≡ false → Free (g ∷ gs) s.entries → Apart (g ∷ gs) → r.twice ≡ false
     unfolding with_first
-    came-stays e f p =
+    came_stays e f p =
         let unused : used g s.entries ≡ false =
         ⊎_elim (λ t. absurd (let u = used_some g s.entries range.0 t in u.2 (f u.0 (inl u.1)))) (λ t. t) (cases_Bool (used g s.entries)) in
         more.stays (from_nor s.twice (used g s.entries) e unused)
@@ -88,17 +88,17 @@ module _ (c : ℕ) (low : 1 ≤ c) (high : c ≤ 480) where
 
     came : Came c (g ∷ gs) s r
     unfolding with_first
-    came = record { full = more.full; lawful = more.lawful; held = came_held; others = came-others; once = came-once; stays = came-stays }
+    came = record { full = more.full; lawful = more.lawful; held = came_held; others = came_others; once = came_once; stays = came_stays }
 
-  pub claims-come : (gs : List Group) (s : Claim) → length s.entries ≡ 480 → GroupsInRange gs → Came c gs s (claims c gs s)
+  pub claims_come : (gs : List Group) (s : Claim) → length s.entries ≡ 480 → GroupsInRange gs → Came c gs s (claims c gs s)
   unfolding with_first
-  claims-come [] s room range =
+  claims_come [] s room range =
       record { full = room; lawful = refl; held = λ k h. absurd h; others = λ k one n. refl; once = λ e. (e, (λ k h. absurd h), tt); stays = λ e f p. e }
-  claims-come (g ∷ gs) s room range =
+  claims_come (g ∷ gs) s room range =
       let first = first_claimed c g s (fits_in_range c g low high range.0 range.1 range.2) in
-      let long = length-give c g s.entries room range.0 range.1 range.2 in
+      let long = length_give c g s.entries room range.0 range.1 range.2 in
       came g gs s (claims c gs (claimed c g s)) room range
-      (subst (λ t. Came c gs (with_first c g s) (claims c gs t)) (sym first) (claims-come gs (with_first c g s) long range.3))
+      (subst (λ t. Came c gs (with_first c g s) (claims c gs t)) (sym first) (claims_come gs (with_first c g s) long range.3))
 
 -- the claims are lawful just if the client and the groups are in range
 pub unlawful_stays : (c : ℕ) (gs : List Group) (s : Claim) → s.lawful ≡ false → (claims c gs s).lawful ≡ false

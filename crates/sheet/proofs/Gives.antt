@@ -31,9 +31,9 @@ module _ (c a n : ℕ) (es : List ℕ) (fits : a + n < length es) where
   pub at_next : get_or (gave c a n es) (a + n) 0 ≡ get_or es (a + n) 0
   at_next = ap (λ t. get_or t (a + n) 0) split ∙ get_or_at front (get_or es (a + n) 0) (drop (a + n + 1) es) 0 (a + n) front_length
 
-  pub gave-more : set (gave c a n es) (a + n) c ≡ gave c a (n + 1) es
+  pub gave_more : set (gave c a n es) (a + n) c ≡ gave c a (n + 1) es
   unfolding front
-  gave-more =
+  gave_more =
       let rest : List ℕ = drop (a + n + 1) es in
       ap (λ t. set t (a + n) c) split
       ∙ set_at front (get_or es (a + n) 0) rest c (a + n) front_length
@@ -63,18 +63,18 @@ module _ (c f k : ℕ) (es now : List ℕ) (one : 1 ≤ f) (from : f ≤ k) (top
   more : k - f + 1 ≡ k + 1 - f
   more = omega arith
 
-  pub slot-given : set now (k - 1) c ≡ gave c (f - 1) (k + 1 - f) es
-  slot-given =
+  pub slot_given : set now (k - 1) c ≡ gave c (f - 1) (k + 1 - f) es
+  slot_given =
       ap (λ t. set t (k - 1) c) is
       ∙ ap (λ i. set (gave c (f - 1) (k - f) es) i c) (sym place)
-      ∙ gave-more c (f - 1) (k - f) es within
+      ∙ gave_more c (f - 1) (k - f) es within
       ∙ ap (λ n. gave c (f - 1) n es) more
 
   pub slot_read : get_or now (k - 1) 0 ≡ get_or es (k - 1) 0
   slot_read = ap (λ t. get_or t (k - 1) 0) is ∙ ap (λ i. get_or (gave c (f - 1) (k - f) es) i 0) (sym place) ∙ at_next c (f - 1) (k - f) es within ∙ ap (λ i. get_or es i 0) place
 
-  pub slot-used : filled (take (k + 1 - f) (drop (f - 1) es)) ≡ cond (filled (take (k - f) (drop (f - 1) es))) true (cond (eqb (get_or es (k - 1) 0) 0) false true)
-  slot-used =
+  pub slot_used : filled (take (k + 1 - f) (drop (f - 1) es)) ≡ cond (filled (take (k - f) (drop (f - 1) es))) true (cond (eqb (get_or es (k - 1) 0) 0) false true)
+  slot_used =
       ap (λ n. filled (take n (drop (f - 1) es))) (sym more)
       ∙ filled_more c (f - 1) (k - f) es within
       ∙ ap (λ i. cond (filled (take (k - f) (drop (f - 1) es))) true (cond (eqb (get_or es i 0) 0) false true)) place

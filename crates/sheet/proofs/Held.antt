@@ -51,9 +51,9 @@ module _ (c : ℕ) (g : Group) (es : List ℕ) (full : length es ≡ 480) (low :
   tail : List ℕ
   tail = replicate n c ++ drop (a + n) es
 
-  pub length-give : length (give c g es) ≡ 480
+  pub length_give : length (give c g es) ≡ 480
   unfolding a n
-  length-give =
+  length_give =
       let x = length-append (take (g.first - 1) es) (replicate (g.last + 1 - g.first) c ++ drop (g.first - 1 + (g.last + 1 - g.first)) es) in
       let y = length-append (replicate (g.last + 1 - g.first) c) (drop (g.first - 1 + (g.last + 1 - g.first)) es) in
       let z = length-replicate (g.last + 1 - g.first) c in
@@ -61,16 +61,16 @@ module _ (c : ℕ) (g : Group) (es : List ℕ) (full : length es ≡ 480) (low :
       let f = length-take-le (g.first - 1) es (omega arith) in
       omega arith
 
-  pub give-held : (k : ℕ) → Holds g k → at (give c g es) k ≡ c
+  pub give_held : (k : ℕ) → Holds g k → at (give c g es) k ≡ c
   unfolding a n tail
-  give-held k h =
+  give_held k h =
       get_or-append_right (take a es) tail a (k - 1) 0 fore (omega arith)
       ∙ get_or_append_left (replicate n c) (drop (a + n) es) 0 (k - 1 - a) (let z = length-replicate n c in omega arith)
       ∙ get_or-replicate n (k - 1 - a) c 0 (omega arith)
 
-  pub give-other : (k : ℕ) → 1 ≤ k → (Holds g k → ⊥) → at (give c g es) k ≡ at es k
+  pub give_other : (k : ℕ) → 1 ≤ k → (Holds g k → ⊥) → at (give c g es) k ≡ at es k
   unfolding a n tail
-  give-other k one non =
+  give_other k one non =
       ⊎_elim
       (λ b. get_or_append_left (take a es) tail 0 (k - 1) (let f = fore in omega arith) ∙ get_or-take a es (k - 1) 0 (omega arith))
       (λ b. let past : g.last < k = ⊎_elim (λ x. x) (λ x. absurd (non (omega arith, x))) (cases_lt g.last k) in

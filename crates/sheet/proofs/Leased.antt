@@ -130,24 +130,24 @@ own_slot (l ∷ ls) c e p h =
 
 -- a client has a slot in the calendar just if it has a lease
 module _ (ls : List Lease) (es : List ℕ) (lawful : Lawful ls) (gives : Gives ls es) (c : ℕ) (low : 1 ≤ c) (high : c ≤ 480) where
-  in-range : in_range c ≡ true
-  in-range = grind (arith, nat_tests)
+  numbers_in_range : in_range c ≡ true
+  numbers_in_range = grind (arith, nat_tests)
 
-  pub named-has-lease : named c es ≡ true → Leases c ls
-  named-has-lease e =
-      let some = ltb-true 0 (slot_count c es) (sym (cond-true (in_range c) (ltb 0 (slot_count c es)) false in-range) ∙ e) in
+  pub named_has_lease : named c es ≡ true → Leases c ls
+  named_has_lease e =
+      let some = ltb-true 0 (slot_count c es) (sym (cond-true (in_range c) (ltb 0 (slot_count c es)) false numbers_in_range) ∙ e) in
       let law = share_law c es in
       let own = law.own (λ z. let n = law.together.1 z in omega arith) in
       let s : ℕ = first_slot c es in
       let full = gives.0 in
       belongs_client ls s c (subst (λ d. Belongs ls s d) own.2 (gives.1 s own.0 (omega arith))) (λ z. omega arith)
 
-  pub lease-is-named : Leases c ls → named c es ≡ true
-  lease-is-named h =
+  pub lease_is_named : Leases c ls → named c es ≡ true
+  lease_is_named h =
       let o = own_slot ls c lawful.0 lawful.1 h in
       let law = share_law c es in
       let full = gives.0 in
       let has : at es o.0 ≡ c = o.4 (at es o.0) (gives.1 o.0 o.1 o.2) in
       let first : first_slot c es ≡ 0 → ⊥ = λ z. law.none z o.0 (o.1, omega arith, has) in
       let some : 0 < slot_count c es = ⊎_elim (λ z. absurd (first (law.together.0 z))) (λ z. omega arith) (cases_eq (slot_count c es) 0) in
-      cond-true (in_range c) (ltb 0 (slot_count c es)) false in-range ∙ lt-ltb 0 (slot_count c es) some
+      cond-true (in_range c) (ltb 0 (slot_count c es)) false numbers_in_range ∙ lt-ltb 0 (slot_count c es) some

@@ -9,28 +9,28 @@ use Rattle.form.proofs.Lines.{lines_from_first}
 use Rattle.sheet.specs.Verdict.{chain, judged, leased, line_form, line_verdict, longest, refused, verdict}
 
 module _ (n : ℕ) (es xs : List ℕ) (some : 0 < length xs) where
-  first-judged : judged n es (lines xs) ≡ chain (line_verdict n es (first_line xs).0) (λ after. judged (n + 1) after (lines (first_line xs).1))
-  first-judged = ap (judged n es) (lines_from_first xs some)
+  first_judged : judged n es (lines xs) ≡ chain (line_verdict n es (first_line xs).0) (λ after. judged (n + 1) after (lines (first_line xs).1))
+  first_judged = ap (judged n es) (lines_from_first xs some)
 
-  pub mark-refused : marked (first_line xs).0.text ≡ false → judged n es (lines xs) ≡ Err (refused MarkNotAllowed Marks n)
-  mark-refused e =
-      first-judged
+  pub mark_refused : marked (first_line xs).0.text ≡ false → judged n es (lines xs) ≡ Err (refused MarkNotAllowed Marks n)
+  mark_refused e =
+      first_judged
       ∙ ap (λ r. chain r (λ after. judged (n + 1) after (lines (first_line xs).1)))
       (cond-false (marked (first_line xs).0.text) (leased n es (line_form (first_line xs).0)) (Err (refused MarkNotAllowed Marks n)) e)
 
   module _ (l : LineOf) (ys : List ℕ) (is : (l, ys) ≡ first_line xs) (marks : marked (first_line xs).0.text ≡ true) where
-    line-judged : judged n es (lines xs) ≡ chain (leased n es (line_form l)) (λ after. judged (n + 1) after (lines ys))
-    line-judged =
-        first-judged
+    line_judged : judged n es (lines xs) ≡ chain (leased n es (line_form l)) (λ after. judged (n + 1) after (lines ys))
+    line_judged =
+        first_judged
         ∙ ap (λ r. chain r (λ after. judged (n + 1) after (lines (first_line xs).1)))
         (cond-true (marked (first_line xs).0.text) (leased n es (line_form (first_line xs).0)) (Err (refused MarkNotAllowed Marks n)) marks)
         ∙ ap (λ p. chain (leased n es (line_form p.0)) (λ after. judged (n + 1) after (lines p.1))) (sym is)
 
     pub line_refused : (e : SheetRefusal) → leased n es (line_form l) ≡ Err e → judged n es (lines xs) ≡ Err e
-    line_refused e h = line-judged ∙ ap (λ r. chain r (λ after. judged (n + 1) after (lines ys))) h
+    line_refused e h = line_judged ∙ ap (λ r. chain r (λ after. judged (n + 1) after (lines ys))) h
 
     pub line_read : (out : List ℕ) → leased n es (line_form l) ≡ Ok out → judged n es (lines xs) ≡ judged (n + 1) out (lines ys)
-    line_read out h = line-judged ∙ ap (λ r. chain r (λ after. judged (n + 1) after (lines ys))) h
+    line_read out h = line_judged ∙ ap (λ r. chain r (λ after. judged (n + 1) after (lines ys))) h
 
 -- a sheet that is not too long is judged line by line
 pub not_long : (xs : List ℕ) → length xs ≤ longest → verdict xs ≡ judged 1 (replicate 480 0) (lines xs)

@@ -16,7 +16,7 @@ use Rattle.sheet.specs.Laws.{Apart, Breaks, EachLawful, FirstFault, Gives, InRan
 use Rattle.sheet.proofs.Claiming.{false_true}
 use Rattle.sheet.proofs.Leased.{apart_parts, each_last, groups_append, each_prefix}
 use Rattle.sheet.proofs.Steps.{not_long}
-use Rattle.sheet.proofs.Weighing.{State, Fault, err_ok, ok_err, ok_same, err_same, far, again, clash, lease-fails, lease-ok, lease-reads, writable}
+use Rattle.sheet.proofs.Weighing.{State, Fault, err_ok, ok_err, ok_same, err_same, far, again, clash, lease_fails, lease_ok, lease_reads, writable}
 
 -- marks
 
@@ -70,82 +70,82 @@ abbrev First : List Lease → LineOf → Rule → Type 0
 First ls l rule = Breaks ls l rule × ((r : Rule) → order r < order rule → Breaks ls l r → ⊥)
 
 module _ (ls : List Lease) (es : List ℕ) (state : State ls es) (n : ℕ) (l : LineOf) where
-  marked-verdict : marked l.text ≡ true → line_verdict n es l ≡ leased n es (line_form l)
-  marked-verdict t = cond-true (marked l.text) (leased n es (line_form l)) (Err (refused MarkNotAllowed Marks n)) t
+  marked_verdict : marked l.text ≡ true → line_verdict n es l ≡ leased n es (line_form l)
+  marked_verdict t = cond-true (marked l.text) (leased n es (line_form l)) (Err (refused MarkNotAllowed Marks n)) t
 
-  form-cases : (o : Option Lease) → line_form l ≡ o → (line_form l ≡ None) ⊎ ((m : Lease) × (line_form l ≡ Some m))
-  form-cases None e = inl e
-  form-cases (Some m) e = inr (m, e)
+  form_cases : (o : Option Lease) → line_form l ≡ o → (line_form l ≡ None) ⊎ ((m : Lease) × (line_form l ≡ Some m))
+  form_cases None e = inl e
+  form_cases (Some m) e = inr (m, e)
 
   pub line_ok : (out : List ℕ) → line_verdict n es l ≡ Ok out → (m : Lease) × (l ≡ written m) × State (ls ++ (m ∷ [])) out
   line_ok out e =
       ⊎_elim
-      (λ t. let f = sym (marked-verdict t) ∙ e in
+      (λ t. let f = sym (marked_verdict t) ∙ e in
       ⊎_elim
       (λ z. absurd (err_ok (sym (ap (leased n es) z) ∙ f)))
       (λ p. let m : Lease = p.0 in let w = line_form_is l m p.1 in
-      (m, w.1, lease-ok ls es state m n w.0.1 out (sym (ap (leased n es) p.1) ∙ f)))
-      (form-cases (line_form l) refl))
+      (m, w.1, lease_ok ls es state m n w.0.1 out (sym (ap (leased n es) p.1) ∙ f)))
+      (form_cases (line_form l) refl))
       (λ t. absurd (err_ok (sym (cond-false (marked l.text) (leased n es (line_form l)) (Err (refused MarkNotAllowed Marks n)) t) ∙ e)))
       (cases_Bool (marked l.text))
 
   module _ (t : marked l.text ≡ true) where
-    no-marks : Breaks ls l marks → ⊥
-    no-marks b = no_bad_mark l.text b.0 t b.1 b.2
+    no_marks : Breaks ls l marks → ⊥
+    no_marks b = no_bad_mark l.text b.0 t b.1 b.2
 
-    before-form : (r : Rule) → order r < 1 → Breaks ls l r → ⊥
-    before-form marks h b = no-marks b
-    before-form form h b = omega arith
-    before-form range h b = omega arith
-    before-form client h b = omega arith
-    before-form slots h b = omega arith
+    before_form : (r : Rule) → order r < 1 → Breaks ls l r → ⊥
+    before_form marks h b = no_marks b
+    before_form form h b = omega arith
+    before_form range h b = omega arith
+    before_form client h b = omega arith
+    before_form slots h b = omega arith
 
     module _ (m : Lease) (w : Writable m) (is : l ≡ written m) where
-      same-lease : (p : Lease) → Writable p → l ≡ written p → p ≡ m
-      same-lease p v e = written_same p m v w (sym e ∙ is)
+      same_lease : (p : Lease) → Writable p → l ≡ written p → p ≡ m
+      same_lease p v e = written_same p m v w (sym e ∙ is)
 
-      before-range : (r : Rule) → order r < 2 → Breaks ls l r → ⊥
-      before-range marks h b = no-marks b
-      before-range form h b = b m w is
-      before-range range h b = omega arith
-      before-range client h b = omega arith
-      before-range slots h b = omega arith
+      before_range : (r : Rule) → order r < 2 → Breaks ls l r → ⊥
+      before_range marks h b = no_marks b
+      before_range form h b = b m w is
+      before_range range h b = omega arith
+      before_range client h b = omega arith
+      before_range slots h b = omega arith
 
-      no-range : InRange m → Breaks ls l range → ⊥
-      no-range i b = b.3 (subst InRange (sym (same-lease b.0 b.1 b.2)) i)
+      no_range : InRange m → Breaks ls l range → ⊥
+      no_range i b = b.3 (subst InRange (sym (same_lease b.0 b.1 b.2)) i)
 
-      before-client : InRange m → (r : Rule) → order r < 3 → Breaks ls l r → ⊥
-      before-client i marks h b = no-marks b
-      before-client i form h b = b m w is
-      before-client i range h b = no-range i b
-      before-client i client h b = omega arith
-      before-client i slots h b = omega arith
+      before_client : InRange m → (r : Rule) → order r < 3 → Breaks ls l r → ⊥
+      before_client i marks h b = no_marks b
+      before_client i form h b = b m w is
+      before_client i range h b = no_range i b
+      before_client i client h b = omega arith
+      before_client i slots h b = omega arith
 
-      before-slots : InRange m → (Leases m.client ls → ⊥) → (r : Rule) → order r < 4 → Breaks ls l r → ⊥
-      before-slots i k marks h b = no-marks b
-      before-slots i k form h b = b m w is
-      before-slots i k range h b = no-range i b
-      before-slots i k client h b = k (subst (λ p. Leases p.client ls) (same-lease b.0 b.1 b.2) b.3)
-      before-slots i k slots h b = omega arith
+      before_slots : InRange m → (Leases m.client ls → ⊥) → (r : Rule) → order r < 4 → Breaks ls l r → ⊥
+      before_slots i k marks h b = no_marks b
+      before_slots i k form h b = b m w is
+      before_slots i k range h b = no_range i b
+      before_slots i k client h b = k (subst (λ p. Leases p.client ls) (same_lease b.0 b.1 b.2) b.3)
+      before_slots i k slots h b = omega arith
 
-      fault-first : (e : SheetRefusal) → Fault ls es state m n e → (rule : Rule) × (e ≡ refused (cause_of rule) (level_of rule) n) × First ls l rule
-      fault-first e (far f q) = (range, q, ((m, w, is, f), before-range))
-      fault-first e (again i f q) = (client, q, ((m, w, is, f), before-client i))
-      fault-first e (clash i k f q) = (slots, q, ((m, w, is, f), before-slots i k))
+      fault_first : (e : SheetRefusal) → Fault ls es state m n e → (rule : Rule) × (e ≡ refused (cause_of rule) (level_of rule) n) × First ls l rule
+      fault_first e (far f q) = (range, q, ((m, w, is, f), before_range))
+      fault_first e (again i f q) = (client, q, ((m, w, is, f), before_client i))
+      fault_first e (clash i k f q) = (slots, q, ((m, w, is, f), before_slots i k))
 
-  pub line-fault : (e : SheetRefusal) → line_verdict n es l ≡ Err e → (rule : Rule) × (e ≡ refused (cause_of rule) (level_of rule) n) × First ls l rule
-  line-fault e h =
+  pub line_fault : (e : SheetRefusal) → line_verdict n es l ≡ Err e → (rule : Rule) × (e ≡ refused (cause_of rule) (level_of rule) n) × First ls l rule
+  line_fault e h =
       ⊎_elim
-      (λ t. let f = sym (marked-verdict t) ∙ h in
+      (λ t. let f = sym (marked_verdict t) ∙ h in
       ⊎_elim
       (λ z. (
         form,
         sym (err_same (sym (ap (leased n es) z) ∙ f)),
-        ((λ m w is. unwritten m w is z), before-form t),
+        ((λ m w is. unwritten m w is z), before_form t),
       ))
       (λ p. let m : Lease = p.0 in let w = line_form_is l m p.1 in
-      fault-first t m w.0 w.1 e (lease-fails ls es state m n w.0.1 e (sym (ap (leased n es) p.1) ∙ f)))
-      (form-cases (line_form l) refl))
+      fault_first t m w.0 w.1 e (lease_fails ls es state m n w.0.1 e (sym (ap (leased n es) p.1) ∙ f)))
+      (form_cases (line_form l) refl))
       (λ t. (
         marks,
         sym (err_same (sym (cond-false (marked l.text) (leased n es (line_form l)) (Err (refused MarkNotAllowed Marks n)) t) ∙ h)),
@@ -189,7 +189,7 @@ Faulty ls ms e =
 
 here : (ls : List Lease) (es : List ℕ) (n : ℕ) (l : LineOf) (ms : List LineOf) (e : SheetRefusal) → State ls es → n ≡ length ls + 1 → line_verdict n es l ≡ Err e → Faulty ls (l ∷ ms) e
 here ls es n l ms e state q h =
-    let f = line-fault ls es state n l e h in
+    let f = line_fault ls es state n l e h in
     let back = sym (append-nil ls) in (
       [],
       l,
@@ -232,11 +232,11 @@ lines_read (m ∷ new) ls n es state w =
     (each_prefix (ls ++ (m ∷ [])) new v.0, (apart_parts (groups_of (ls ++ (m ∷ []))) (groups_of new) (subst Apart (groups_append (ls ++ (m ∷ [])) new) v.1)).0) in
     let last = each_last ls m front.0 in
     let can = writable m last.0 last.1 in
-    let read = lease-reads ls es state m n front in
+    let read = lease_reads ls es state m n front in
     let ok : line_verdict n es (written m) ≡ Ok read.0 =
     cond-true (marked (lease_text m)) (leased n es (line_form (written m))) (Err (refused MarkNotAllowed Marks n)) (plain_marked (lease_text m) (plain_lease m can))
     ∙ ap (leased n es) (line_form_reads m can) ∙ read.1 in
-    let next = lease-ok ls es state m n last.0 read.0 read.1 in
+    let next = lease_ok ls es state m n last.0 read.0 read.1 in
     let r = lines_read new (ls ++ (m ∷ [])) (n + 1) read.0 next v in (
       r.0,
       ap (λ t. chain t (λ after. judged (n + 1) after (written_all new))) ok ∙ r.1,

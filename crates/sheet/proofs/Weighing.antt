@@ -12,8 +12,8 @@ use Rattle.form.proofs.Plain.{plain_lease, plain_marked}
 use Rattle.sheet.specs.Verdict.{Claim, claims, leased, line_form, line_verdict, named, refused, start, weighed}
 use Rattle.sheet.specs.Laws.{Apart, Belongs, Breaks, EachLawful, Gives, GroupsInRange, HeldBy, InRange, Lawful, Leases, Rule, Stands, cause_of, groups_of, level_of, marks, form, range, client, slots, order, written}
 use Rattle.sheet.proofs.Held.{at, held_or_not, held_in_range}
-use Rattle.sheet.proofs.Claiming.{Came, claims-come, false_true, lawful_client, lawful_in_range}
-use Rattle.sheet.proofs.Leased.{apart_join, apart_parts, belongs_held, belongs_none, belongs_other, belongs_taken, crossed, each_last, each_snoc, groups_snoc, held_left, lease-is-named, named-has-lease}
+use Rattle.sheet.proofs.Claiming.{Came, claims_come, false_true, lawful_client, lawful_in_range}
+use Rattle.sheet.proofs.Leased.{apart_join, apart_parts, belongs_held, belongs_none, belongs_other, belongs_taken, crossed, each_last, each_snoc, groups_snoc, held_left, lease_is_named, named_has_lease}
 
 -- the leases of the lines before, and the entries that they give
 abbrev pub State : List Lease → List ℕ → Type 0
@@ -77,25 +77,25 @@ module _ (ls : List Lease) (es : List ℕ) (state : State ls es) (m : Lease) (n 
 
   came : InRange m → Came m.client m.groups (start es) s
   unfolding s
-  came r = claims-come m.client r.0 r.1 m.groups (start es) state.1.0 r.2
+  came r = claims_come m.client r.0 r.1 m.groups (start es) state.1.0 r.2
 
-  lawful-range : SomeGroup m.groups → s.lawful ≡ true → InRange m
+  lawful_range : SomeGroup m.groups → s.lawful ≡ true → InRange m
   unfolding s
-  lawful-range g e = let c = client_of m.client m.groups (start es) g e in (c.0, c.1, lawful_in_range m.client m.groups (start es) e)
+  lawful_range g e = let c = client_of m.client m.groups (start es) g e in (c.0, c.1, lawful_in_range m.client m.groups (start es) e)
 
-  range-lawful : InRange m → s.lawful ≡ true
-  range-lawful r = (came r).lawful
+  range_lawful : InRange m → s.lawful ≡ true
+  range_lawful r = (came r).lawful
 
   -- the slots of m are free just if no lease before holds one
-  taken-by-none : (r : InRange m) → s.twice ≡ false → Apart (groups_of (ls ++ (m ∷ [])))
-  taken-by-none r t =
+  taken_by_none : (r : InRange m) → s.twice ≡ false → Apart (groups_of (ls ++ (m ∷ [])))
+  taken_by_none r t =
       let o = (came r).once t in
       subst Apart (sym (groups_snoc ls m))
       (apart_join (groups_of ls) m.groups state.0.1 o.2
       (λ k a b. let h = held_in_range m.groups k r.2 b in belongs_taken ls k (at es k) state.0.0 (state.1.1 k h.0 h.1) a (o.1 k b)))
 
-  apart-once : (r : InRange m) → Apart (groups_of (ls ++ (m ∷ []))) → s.twice ≡ false
-  apart-once r p =
+  apart_once : (r : InRange m) → Apart (groups_of (ls ++ (m ∷ []))) → s.twice ≡ false
+  apart_once r p =
       let q = apart_parts (groups_of ls) m.groups (subst Apart (groups_snoc ls m) p) in
       (came r).stays refl
       (λ k b. let h = held_in_range m.groups k r.2 b in belongs_none ls k (at es k) (λ a. crossed (groups_of ls) m.groups q.2 k a b) (state.1.1 k h.0 h.1))
@@ -113,26 +113,26 @@ module _ (ls : List Lease) (es : List ℕ) (state : State ls es) (m : Lease) (n 
             (held_or_not m.groups k),
       )
 
-  pub lease-ok : SomeGroup m.groups → (out : List ℕ) → leased n es (Some m) ≡ Ok out → State (ls ++ (m ∷ [])) out
+  pub lease_ok : SomeGroup m.groups → (out : List ℕ) → leased n es (Some m) ≡ Ok out → State (ls ++ (m ∷ [])) out
   unfolding s
-  lease-ok g out e =
+  lease_ok g out e =
       let t = tests_ok s.lawful (named m.client es) s.twice n s.entries out e in
-      let r = lawful-range g t.0 in
-      let p = taken-by-none r t.2 in
-      let new : Leases m.client ls → ⊥ = λ h. false_true (sym t.1 ∙ lease-is-named ls es state.0 state.1 m.client r.0 r.1 h) in
+      let r = lawful_range g t.0 in
+      let p = taken_by_none r t.2 in
+      let new : Leases m.client ls → ⊥ = λ h. false_true (sym t.1 ∙ lease_is_named ls es state.0 state.1 m.client r.0 r.1 h) in
       ((each_snoc ls m state.0.0 g r new, p), subst (Gives (ls ++ (m ∷ []))) t.3 (grown r p))
 
-  pub lease-reads : Lawful (ls ++ (m ∷ [])) → (out : List ℕ) × (leased n es (Some m) ≡ Ok out)
+  pub lease_reads : Lawful (ls ++ (m ∷ [])) → (out : List ℕ) × (leased n es (Some m) ≡ Ok out)
   unfolding s
-  lease-reads w =
+  lease_reads w =
       let l = each_last ls m w.0 in
       let r = l.1 in
       let known : named m.client es ≡ false =
-      ⊎_elim (λ t. absurd (l.2 (named-has-lease ls es state.0 state.1 m.client r.0 r.1 t))) (λ t. t) (cases_Bool (named m.client es)) in (
+      ⊎_elim (λ t. absurd (l.2 (named_has_lease ls es state.0 state.1 m.client r.0 r.1 t))) (λ t. t) (cases_Bool (named m.client es)) in (
         s.entries,
-        ap (λ b. tests b (named m.client es) s.twice n s.entries) (range-lawful r)
+        ap (λ b. tests b (named m.client es) s.twice n s.entries) (range_lawful r)
             ∙ ap (λ b. tests true b s.twice n s.entries) known
-            ∙ ap (λ b. tests true false b n s.entries) (apart-once r w.1),
+            ∙ ap (λ b. tests true false b n s.entries) (apart_once r w.1),
       )
 
   -- which of the rules of a lease is broken
@@ -141,13 +141,13 @@ module _ (ls : List Lease) (es : List ℕ) (state : State ls es) (m : Lease) (n 
     again : InRange m → Leases m.client ls → e ≡ refused ClientTwice Calendar n → Fault e
     clash : InRange m → (Leases m.client ls → ⊥) → (Apart (groups_of (ls ++ (m ∷ []))) → ⊥) → e ≡ refused SlotTwice Calendar n → Fault e
 
-  pub lease-fails : SomeGroup m.groups → (e : SheetRefusal) → leased n es (Some m) ≡ Err e → Fault e
+  pub lease_fails : SomeGroup m.groups → (e : SheetRefusal) → leased n es (Some m) ≡ Err e → Fault e
   unfolding s Failed
-  lease-fails g e h =
+  lease_fails g e h =
       ⊎_elim
-      (λ t. far (λ r. false_true (sym t.0 ∙ range-lawful r)) t.1)
+      (λ t. far (λ r. false_true (sym t.0 ∙ range_lawful r)) t.1)
       (λ t. ⊎_elim
-      (λ u. let r = lawful-range g u.0 in again r (named-has-lease ls es state.0 state.1 m.client r.0 r.1 u.1) u.2)
-      (λ u. let r = lawful-range g u.0 in
-      clash r (λ a. false_true (sym u.1 ∙ lease-is-named ls es state.0 state.1 m.client r.0 r.1 a)) (λ p. false_true (sym (apart-once r p) ∙ u.2)) u.3) t)
+      (λ u. let r = lawful_range g u.0 in again r (named_has_lease ls es state.0 state.1 m.client r.0 r.1 u.1) u.2)
+      (λ u. let r = lawful_range g u.0 in
+      clash r (λ a. false_true (sym u.1 ∙ lease_is_named ls es state.0 state.1 m.client r.0 r.1 a)) (λ p. false_true (sym (apart_once r p) ∙ u.2)) u.3) t)
       (tests_failed s.lawful (named m.client es) s.twice n s.entries e h)

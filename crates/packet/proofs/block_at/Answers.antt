@@ -4,16 +4,16 @@ use Rattle.std.proofs.lemmas.List.{take_rest}
 use Rattle.std.proofs.lemmas.Option.{slice_get_past}
 use Rattle.block.specs.Fixed.{idle_block}
 use Rattle.packet.specs.Format.{end_block}
-use Rattle.packet.proofs.Blocks.{at-opening, at-data, at_last}
+use Rattle.packet.proofs.Blocks.{at_opening, at_data, at_last}
 use Rattle.packet.proofs.block_at.Goals as goal
 
 pub returns-then-place-eq0 : goal.returns-then-place-eq0
-returns-then-place-eq0 c = at-opening c.args.packet.now c.args.place (omega arith)
+returns-then-place-eq0 c = at_opening c.args.packet.now c.args.place (omega arith)
 
 pub returns-then-at-whole : goal.returns-then-at-whole
 returns-then-at-whole c =
     let eight : 8 * (c.args.place - 1) + 8 - 8 * (c.args.place - 1) ≡ 8 = omega arith in
-    at-data c.args.packet.now c.args.place (omega arith) (omega arith) _ (rw eight at c.data_block.ensures)
+    at_data c.args.packet.now c.args.place (omega arith) (omega arith) _ (rw eight at c.data_block.ensures)
 
 pub returns-in-0 : goal.returns-in-0
 returns-in-0 c =

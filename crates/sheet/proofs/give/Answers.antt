@@ -2,9 +2,9 @@ use Rattle.std.proofs.Common.{◌≡◌, ℕ, ◌+◌, ◌-◌, ◌≤◌, Bool,
 use Rattle.calendar.specs.Entries.{entries_of}
 use Rattle.calendar.proofs.Facts.{entries_length}
 use Rattle.sheet.specs.Verdict.{filled, gave}
-use Rattle.sheet.proofs.Gives.{gave_none, checked_ok, checked_in, slot-given, slot_read, slot-used, some_entry, again_then, again_else}
+use Rattle.sheet.proofs.Gives.{gave_none, checked_ok, checked_in, slot_given, slot_read, slot_used, some_entry, again_then, again_else}
 use Rattle.sheet.proofs.give.Goals as goal
-use Rattle.sheet.proofs.give.Goals.{in-Ok, then-is-some, else-is-some, in-default}
+use Rattle.sheet.proofs.give.Goals.{in-Ok, then-is_some, else-is_some, in_default}
 
 pub loop-number-init : goal.loop-number-init
 loop-number-init c =
@@ -28,7 +28,7 @@ loop-number-preserved c =
     let top : k ≤ 480 = omega arith in
     let full = entries_length c.args.draft.now in
     let is = c.loop-number.invariant.2 in
-    let used = slot-used C f k es now one from top full is in
+    let used = slot_used C f k es now one from top full is in
     let bound : k + 1 - f ≤ c.number-number-end.result + 1 - f = omega arith in
     elim c.match-new.branch [
       | in-Ok w ↦
@@ -39,13 +39,13 @@ loop-number-preserved c =
           used ∙ ap (λ b. cond b true (cond (eqb (get_or es (k - 1) 0) 0) false true)) (sym c.loop-number.invariant.3) ∙ ap (λ t. cond c.loop-number.again true t) (sym some) in (
             omega arith,
             bound,
-            ap entries_of w.draft-is ∙ w.assign.ensures ∙ ap (λ i. set now (i - 1) C) s ∙ slot-given C f k es now one from top full is,
+            ap entries_of w.draft-is ∙ w.assign.ensures ∙ ap (λ i. set now (i - 1) C) s ∙ slot_given C f k es now one from top full is,
             w.again-is ∙ elim w.if-is_some.branch [
-              | then-is-some v ↦ v.again-is ∙ again_then c.loop-number.again w.is_some.result _ or v.if-is_some.true
-              | else-is-some v ↦ v.again-is ∙ again_else c.loop-number.again w.is_some.result _ or v.if-is_some.false
+              | then-is_some v ↦ v.again-is ∙ again_then c.loop-number.again w.is_some.result _ or v.if-is_some.true
+              | else-is_some v ↦ v.again-is ∙ again_else c.loop-number.again w.is_some.result _ or v.if-is_some.false
             ],
           )
-      | in-default w ↦
+      | in_default w ↦
           absurd (let e : Err w.in_default.field-0 ≡ Ok k = w.in_default.ensures ∙ checked_in k (omega arith) top in let z : ◌≡◌ {A = ℕ} 0 1 = cc in omega arith)
     ]
 

@@ -7,7 +7,7 @@ use Rattle.form.specs.Marks.{lines, first_line}
 use Rattle.form.proofs.Lines.{rest_shorter}
 use Rattle.sheet.specs.Groups.{line_of}
 use Rattle.sheet.specs.Verdict.{judged, leased, line_form}
-use Rattle.sheet.proofs.Steps.{line_read, line_refused, mark-refused, not_long}
+use Rattle.sheet.proofs.Steps.{line_read, line_refused, mark_refused, not_long}
 use Rattle.sheet.proofs.read_lines.Goals as goal
 
 some : (xs : List ℕ) → false ≡ eqb (length xs) 0 → 0 < length xs
@@ -20,7 +20,7 @@ returns-in_err-line c =
     let xs : List ℕ = c.loop-rest.rest.now in
     rw (p.1, p.2) (
       not_long c.args.sheet.now (omega arith) ∙ c.loop-rest.invariant.0
-          ∙ mark-refused c.loop-rest.number (entries_of c.loop-rest.draft) xs (some xs c.loop-rest-test.ensures) e.0
+          ∙ mark_refused c.loop-rest.number (entries_of c.loop-rest.draft) xs (some xs c.loop-rest-test.ensures) e.0
           ∙ ap Err (sym e.1),
       refl,
     )

@@ -1,6 +1,6 @@
 use Rattle.std.proofs.Common.{refl, ◌∙◌, arith}
 use Rattle.bank.specs.Lists.{bank_lists}
-use Rattle.bank.proofs.Blocks.{nothing_without_places, none_given, nothing-counted, first-read-by}
+use Rattle.bank.proofs.Blocks.{nothing_without_places, none_given, nothing_counted, first_read_by}
 use Rattle.bank.proofs.BankStore.first.Goals as goal
 
 pub returns-in_err-start : goal.returns-in_err-start
@@ -10,11 +10,11 @@ returns-in_err-start c =
 
 pub returns-then-min-eq0 : goal.returns-then-min-eq0
 returns-then-min-eq0 c =
-    let e = nothing-counted c.args.self.now.width c.args.client.number c.in_ok-start.start c.args.self.now.memory.now c.args.self.now.rings c.in_ok-start.ensures c.args.client.low c.ring-ring.result c.min.result c.ring-ring.ensures c.min.ensures (omega arith) in
+    let e = nothing_counted c.args.self.now.width c.args.client.number c.in_ok-start.start c.args.self.now.memory.now c.args.self.now.rings c.in_ok-start.ensures c.args.client.low c.ring-ring.result c.min.result c.ring-ring.ensures c.min.ensures (omega arith) in
     record { first = none_given (bank_lists c.args.self.now) c.args.client.number e; one_list = refl }
 
 pub returns : goal.returns
 returns c = record {
-  first = first-read-by c.args.self.now.width c.args.client.number c.in_ok-start.start c.args.self.now.memory.now c.args.self.now.rings c.in_ok-start.ensures c.args.client.low c.ring-ring.result c.place.result _ c.ring-ring.ensures c.place.ensures (omega arith);
+  first = first_read_by c.args.self.now.width c.args.client.number c.in_ok-start.start c.args.self.now.memory.now c.args.self.now.rings c.in_ok-start.ensures c.args.client.low c.ring-ring.result c.place.result _ c.ring-ring.ensures c.place.ensures (omega arith);
   one_list = refl;
 }

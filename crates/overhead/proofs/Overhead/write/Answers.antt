@@ -2,7 +2,7 @@ use Rattle.std.proofs.Common.{◌≡◌, ℕ, ◌^◌, ◌<◌, ◌≤◌, List,
 use Rattle.crc.specs.Bits.{bits, field}
 use Rattle.crc.specs.Remainder.{remainder}
 use Rattle.overhead.specs.Format.{Fields, fields_of, entry_of, covered_bits, overhead_bits, remainder_of}
-use Rattle.overhead.proofs.Writing.{Turned, turned_from, covered, written, bytes-written}
+use Rattle.overhead.proofs.Writing.{Turned, turned_from, covered, written, bytes_written}
 use Rattle.overhead.proofs.Reading.{reads_back, changes_seen}
 use Rattle.overhead.proofs.Overhead.write.Goals as goal
 use Rattle.overhead.proofs.Overhead.write.Goals.{in-Some, in-None}
@@ -35,7 +35,7 @@ returns c =
     let all : List ℕ = get_or bs 0 0 ∷ get_or bs 1 0 ∷ get_or bs 2 0 ∷ get_or bs 3 0 ∷ 0 ∷ 0 ∷ x ∷ [] in
     record {
       bits = e;
-      bytes = bytes-written f w (get_or bs 0 0) (get_or bs 1 0) (get_or bs 2 0) (get_or bs 3 0) t x c.reverse_bits-2.type_inv e;
+      bytes = bytes_written f w (get_or bs 0 0) (get_or bs 1 0) (get_or bs 2 0) (get_or bs 3 0) t x c.reverse_bits-2.type_inv e;
       back = reads_back f all (omega (arith, entry-is, high)) c.args.self.frame.high e;
       seen = changes_seen f all refl e;
     }

@@ -5,7 +5,7 @@ use Rattle.port.specs.Model.{first_of, rest_of}
 use Rattle.packet.specs.Format.{blocks_of}
 use Rattle.packet_inlet.specs.Packets.{blocks_of_all}
 use Rattle.packet_inlet.specs.Waiting.{blocks_left}
-use Rattle.packet_inlet.proofs.Left.{all_none, cuts, opened-first, opened-rest}
+use Rattle.packet_inlet.proofs.Left.{all_none, cuts, opened_first, opened_rest}
 use Rattle.packet_inlet.proofs.PacketInlet.open_next.Goals as goal
 
 pub returns-then-is_empty : goal.returns-then-is_empty
@@ -25,8 +25,8 @@ returns c =
     let zeroth : cut - 0 ≡ cut = omega arith in
     let packet : take (cut - 0) bytes ≡ take (get_or lengths 0 0) bytes = rw zeroth parts.0 in
     let rest : take (length bytes - cut) (drop cut bytes) ≡ drop (get_or lengths 0 0) bytes = take_rest bytes cut ∙ parts.1 in
-    let first = opened-first lengths bytes 0 some _ _ packet rest c.block_at.result c.block_at.ensures in
-    let behind = opened-rest lengths bytes 0 some _ _ packet rest in
+    let first = opened_first lengths bytes 0 some _ _ packet rest c.block_at.result c.block_at.ensures in
+    let behind = opened_rest lengths bytes 0 some _ _ packet rest in
     record {
       client = refl;
       first = first ∙ ap first_of (sym left);
