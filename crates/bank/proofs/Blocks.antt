@@ -1,10 +1,10 @@
 -- What the calls of a bank do to the lists of the clients.
-use Rattle.std.proofs.Common.{◌≡◌, ℕ, zero, suc, ◌+◌, ◌-◌, ◌*◌, ◌<◌, ◌≤◌, min, Bool, true, false, cond, eqb, ◌≢◌, ◌⊎◌, List, [], ◌∷◌, ◌++◌, length, get_or, take, drop, set, replicate, Some, None, Ok, Option, sym, refl, ap, ◌∙◌, subst, inl, inr, ⊎_elim, append_assoc, arith, length-drop, length-set, length-take}
+use Rattle.std.proofs.Common.{◌≡◌, ℕ, zero, suc, ◌+◌, ◌-◌, ◌<◌, ◌≤◌, min, Bool, true, false, cond, eqb, ◌≢◌, List, [], ◌∷◌, ◌++◌, length, get_or, take, drop, set, replicate, Some, None, Ok, sym, refl, ap, ◌∙◌, subst, ⊎_elim, append_assoc, arith, length-set, length-take}
 use Rattle.std.proofs.Math.Path.{fun_ext}
-use Rattle.std.proofs.lemmas.List.{take_all, drop_all, take-append-le, take-take, take-set-le, take_more_set, get_or-set_same, get_or-set_other, get_or-take, get_or-drop, get_or_past, get_or-replicate, length-replicate}
+use Rattle.std.proofs.lemmas.List.{take_all, drop_all, take-append-le, take_more_set, get_or-set_same, get_or-set_other, get_or-take, get_or-drop, get_or_past, get_or-replicate, length-replicate}
 use Rattle.std.proofs.lemmas.Bool.{eqb-true, eqb-false, cases_lt}
 use Rattle.block.specs.declared.Block.{Block}
-use Rattle.port.specs.Model.{Lists, Holding, Accepted, updated, first_of, rest_of, taken, given, empty_with}
+use Rattle.port.specs.Model.{Lists, Holding, Accepted, first_of, rest_of, taken, given, empty_with}
 use Rattle.bank.specs.declared.Ring.{Ring}
 use Rattle.bank.specs.Ring.{turned, place_at}
 use Rattle.bank.specs.Lists.{width_of, AreaAt, area_of, ring_of, blocks_in, free_in, after_next, after_put}

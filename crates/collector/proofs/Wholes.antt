@@ -21,7 +21,7 @@ use Rattle.collector.specs.declared.Found.TheVariants.{Whole, WrongRemainder}
 use Rattle.assembly.specs.Content.{Content, Outcome, broken, wrong, whole}
 use Rattle.collector.specs.State.{State, place_of}
 use Rattle.assembly.specs.Next.{continued, extended, judged, next_of, same_kind, tested}
-use Rattle.collector.specs.Step.{after, after_kind, after_part, after_basic, found_of, is_aps, kept, last_of, report_basic, report_kind, report_of, report_part, settled}
+use Rattle.collector.specs.Step.{after, after_kind, after_part, after_basic, found_of, is_aps, last_of, report_basic, report_kind, report_of, report_part, settled}
 use Rattle.collector.specs.Laws.{Call, gave, goes_kind, goes_to, own, run, Sized, Arrives, Completes, FoundWhole}
 use Rattle.assembly.proofs.Extends.{few_blocks, last_test}
 use Rattle.collector.proofs.Keeps.{same_true}

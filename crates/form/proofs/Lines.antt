@@ -1,10 +1,10 @@
 -- The first line of a sheet, found byte by byte.
-use Rattle.std.proofs.Common.{◌≡◌, ℕ, ◌+◌, ◌-◌, ◌<◌, ◌≤◌, Bool, true, false, cond, eqb, List, [], ◌∷◌, ◌++◌, length, get_or, take, drop, is_some, Some, None, Option, sym, refl, ap, ◌∙◌, ⊎_elim, arith}
-use Rattle.std.proofs.lemmas.List.{append-nil, append_assoc, take_more, drop_more, drop_all, take_all, take_rest}
+use Rattle.std.proofs.Common.{◌≡◌, ℕ, ◌+◌, ◌<◌, ◌≤◌, Bool, true, false, cond, eqb, List, [], ◌∷◌, ◌++◌, length, get_or, take, drop, is_some, Some, None, sym, refl, ap, ◌∙◌, ⊎_elim, arith}
+use Rattle.std.proofs.lemmas.List.{append-nil, append_assoc, take_more, drop_more, drop_all, take_all}
 use Rattle.std.proofs.lemmas.Bool.{cond-true, cond-false, cond_both, eq-eqb}
 use Rattle.std.proofs.lemmas.Bool.Decides.{eqb_tells, nat_tests}
 use Rattle.form.specs.declared.Mark.{Mark}
-use Rattle.form.specs.declared.Mark.TheVariants.{Open, Close, Blank, Digit, Letter, LineEnd}
+use Rattle.form.specs.declared.Mark.TheVariants.{LineEnd}
 use Rattle.form.specs.Marks.{LineOf, mark_of, marked, lines, before, first_line, grown}
 
 -- bytes in front of a first line

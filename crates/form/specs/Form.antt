@@ -1,5 +1,5 @@
 -- The form of a line: (client N (slots A B) (slots A B) ..), with single blanks and one or more groups.
-use Rattle.std.specs.Prelude.{◌≡◌, ℕ, zero, suc, ◌+◌, ◌-◌, ◌*◌, Bool, true, false, cond, List, [], ◌∷◌, length, Some, None, codes, Option, ◌==◌}
+use Rattle.std.specs.Prelude.{◌≡◌, ℕ, zero, suc, ◌+◌, ◌-◌, ◌*◌, Bool, cond, List, [], ◌∷◌, length, Some, None, codes, Option, ◌==◌}
 use Rattle.std.specs.Str.{bytes_eq}
 use Rattle.form.specs.Marks.{digit}
 use Rattle.form.specs.Lease.{Group, Lease, Writable, lease_text}

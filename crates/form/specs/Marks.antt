@@ -1,5 +1,5 @@
 -- The marks that a sheet may hold, and the sheet's lines.
-use Rattle.std.specs.Prelude.{ℕ, Bool, true, false, cond, ◌&&◌, List, [], ◌∷◌, is_some, Some, None, Option, ◌==◌, nat_le}
+use Rattle.std.specs.Prelude.{ℕ, Bool, true, false, cond, List, [], ◌∷◌, is_some, Some, None, Option, ◌==◌, nat_le}
 use Rattle.form.specs.declared.Mark.{Mark}
 use Rattle.form.specs.declared.Mark.TheVariants.{Open, Close, Blank, Digit, Letter, LineEnd}
 

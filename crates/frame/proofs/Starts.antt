@@ -1,10 +1,10 @@
 -- Where in a frame a slot begins.
-use Rattle.std.proofs.Common.{◌≡◌, ℕ, ◌+◌, ◌-◌, ◌*◌, ◌/◌, ◌%◌, ◌<◌, List, ◌++◌, length, get_or, take, drop, sym, ap, ◌∙◌, arith}
+use Rattle.std.proofs.Common.{◌≡◌, ℕ, ◌+◌, ◌-◌, ◌*◌, ◌/◌, ◌%◌, ◌<◌, List, ◌++◌, length, get_or, drop, ap, ◌∙◌, arith}
 use Rattle.std.proofs.lemmas.List.{get_or-append_right, get_or-drop, get_or-take}
 use Rattle.block.specs.declared.Block.{Block}
 use Rattle.payload.specs.Payloads.{slot_bit}
 use Rattle.frame.specs.Frames.{frame_block}
-use Rattle.frame.specs.SlotStarts.{SlotsBeginThere, slot_start}
+use Rattle.frame.specs.SlotStarts.{SlotsBeginThere}
 use Rattle.frame.proofs.Carried.{frame_data}
 
 byte_there : (o p : List ℕ) (q : ℕ) → length o ≡ 7 → q < 7912 →

@@ -1,5 +1,5 @@
 -- The places of a frame's blocks: 1 the start block, 2 to 991 data blocks 1 to 990, 992 the end block.
-use Rattle.std.specs.Prelude.{ℕ, ◌+◌, Bool, false, cond, Some, None, Option, ◌==◌, nat_le}
+use Rattle.std.specs.Prelude.{ℕ, ◌+◌, false, cond, Some, None, Option, ◌==◌, nat_le}
 
 -- blocks of a frame
 abbrev pub frame_blocks : ℕ

@@ -3,7 +3,7 @@ use Rattle.std.proofs.Common.{◌≡◌, ℕ, zero, suc, ◌+◌, ◌-◌, ◌*�
 use Rattle.std.specs.List.{slice_get}
 use Rattle.std.proofs.lemmas.List.{drop-replicate, drop-drop, set_at, drop_all, drop_more, drop-set-lt, append_assoc, length-set}
 use Rattle.block.specs.declared.Block.{Block}
-use Rattle.block.specs.declared.Sync.TheVariants.{Control, Data}
+use Rattle.block.specs.declared.Sync.TheVariants.{Control}
 use Rattle.block.specs.Fixed.{idle_block}
 use Rattle.packet.specs.Format.{opening, block_count, HasBlocks, SixtyFourBytes, end_types, end_block, data_block, data_blocks, blocks_of}
 use Rattle.packet.specs.Answers.{over}

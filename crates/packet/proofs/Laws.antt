@@ -1,19 +1,19 @@
 -- What was written is read: the packet at the front of its own blocks.
-use Rattle.std.proofs.Common.{◌≡◌, ℕ, zero, suc, ◌+◌, ◌-◌, ◌*◌, ◌/◌, ◌<◌, ◌≤◌, Bool, true, false, cond, leb, List, [], ◌∷◌, ◌++◌, length, get_or, take, drop, replicate, Some, None, Ok, Err, Decides, Result, sym, refl, ap, ◌∙◌, add-zero, arith, length-drop, take-add}
-use Rattle.std.proofs.lemmas.List.{take_at, drop-drop, append_assoc, take-append-drop, drop_all}
+use Rattle.std.proofs.Common.{◌≡◌, ℕ, zero, suc, ◌+◌, ◌-◌, ◌*◌, ◌/◌, ◌<◌, ◌≤◌, Bool, true, false, List, [], ◌∷◌, ◌++◌, length, get_or, take, drop, replicate, Some, None, Ok, Err, Decides, Result, sym, refl, ap, ◌∙◌, arith, length-drop, take-add}
+use Rattle.std.proofs.lemmas.List.{take_at, append_assoc, take-append-drop}
 use Rattle.std.proofs.lemmas.Slice.Eq.{bytes_eq-Decides}
 use Rattle.std.proofs.lemmas.Bool.{le-leb, lt-leb, false≢true}
 use Rattle.std.proofs.lemmas.Bool.Decides.{same_from_decides}
 use Rattle.block.specs.declared.Block.{Block}
 use Rattle.block.specs.declared.Sync.{Sync}
 use Rattle.block.specs.declared.Sync.TheVariants.{Zeros, Control, Data as DataSync, Ones}
-use Rattle.block.specs.declared.Class.TheVariants.{Data, End}
-use Rattle.block.specs.Classes.{class_of, control_class}
+use Rattle.block.specs.declared.Class.TheVariants.{End}
+use Rattle.block.specs.Classes.{control_class}
 use Rattle.refusal.specs.declared.Refusal.{Refusal}
 use Rattle.refusal.specs.declared.Refusal.TheVariants.{NoPacket, OutputTooShort}
 use Rattle.block.specs.Fixed.{idle_block}
-use Rattle.packet.specs.Format.{opening, in_range, end_types, end_block, data_block, data_blocks, blocks_of}
-use Rattle.packet.specs.Reading.{Found, prefixed, carried, sized, opens, packet_at}
+use Rattle.packet.specs.Format.{opening, in_range, end_types, end_block, data_blocks, blocks_of}
+use Rattle.packet.specs.Reading.{prefixed, carried, sized, opens, packet_at}
 use Rattle.packet.specs.Spans.{Spans, spanned}
 use Rattle.packet.specs.Answers.{over, leaves, read_answer, bytes_of, GivesBack}
 

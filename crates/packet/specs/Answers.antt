@@ -1,10 +1,10 @@
 -- What the writer and the reader answer, and what they leave in the output.
-use Rattle.std.specs.Prelude.{◌≡◌, ℕ, ◌+◌, ◌/◌, ◌≤◌, Bool, true, cond, List, [], ◌++◌, length, drop, Some, None, Ok, Err, Result, nat_le}
+use Rattle.std.specs.Prelude.{◌≡◌, ℕ, ◌+◌, ◌/◌, ◌≤◌, true, cond, List, [], ◌++◌, length, drop, Some, None, Ok, Err, Result, nat_le}
 use Rattle.block.specs.declared.Block.{Block}
 use Rattle.refusal.specs.declared.Refusal.{Refusal}
 use Rattle.refusal.specs.declared.Refusal.TheVariants.{PacketLength, NoPacket, OutputTooShort}
 use Rattle.packet.specs.Format.{in_range, blocks_of}
-use Rattle.packet.specs.Reading.{Found, packet_at}
+use Rattle.packet.specs.Reading.{Found}
 
 -- an output with new entries at its front, the rest as before
 abbrev pub over : {A : Type 0} → List A → List A → List A

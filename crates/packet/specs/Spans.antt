@@ -1,5 +1,5 @@
 -- A packet by where its end stands: the reader's first step, before it copies.
-use Rattle.std.specs.Prelude.{◌≡◌, ℕ, ◌+◌, ◌*◌, ◌<◌, ◌≤◌, List, ◌++◌, length, take, drop, Some, slice_index_or}
+use Rattle.std.specs.Prelude.{◌≡◌, ℕ, ◌+◌, ◌*◌, ◌<◌, List, ◌++◌, length, take, drop, Some, slice_index_or}
 use Rattle.std.specs.List.{flat_map}
 use Rattle.block.specs.declared.Block.{Block}
 use Rattle.packet.specs.Format.{opening}

@@ -1,11 +1,11 @@
 -- The first of the blocks left, and the rest.
-use Rattle.std.proofs.Common.{◌≡◌, ℕ, zero, suc, ◌+◌, ◌<◌, ◌≤◌, min, Bool, true, false, cond, eqb, List, [], ◌∷◌, ◌++◌, length, get_or, take, drop, Some, None, Ok, Option, sym, refl, ap, ◌∙◌, ⊎_elim, append_assoc, add-one, arith}
+use Rattle.std.proofs.Common.{◌≡◌, ℕ, zero, suc, ◌+◌, ◌<◌, ◌≤◌, min, Bool, true, false, eqb, List, [], ◌∷◌, ◌++◌, length, get_or, take, drop, Some, None, Ok, Option, sym, refl, ◌∙◌, ⊎_elim, add-one, arith}
 use Rattle.std.proofs.Math.Path.{fun_ext}
 use Rattle.std.specs.List.{slice_get}
 use Rattle.std.proofs.lemmas.List.{take_all, drop_all}
-use Rattle.std.proofs.lemmas.Bool.{cases_lt, eqb-true, eq-eqb, ne_eqb}
+use Rattle.std.proofs.lemmas.Bool.{cases_lt, eq-eqb}
 use Rattle.block.specs.declared.Block.{Block}
-use Rattle.port.specs.Model.{Lists, updated, first_of, rest_of, taken}
+use Rattle.port.specs.Model.{first_of, rest_of, taken}
 use Rattle.packet.specs.Format.{opening, blocks_of}
 use Rattle.packet.proofs.Blocks.{blocks_are}
 use Rattle.packet_inlet.specs.Packets.{packets_of, blocks_of_all, are_lengths}

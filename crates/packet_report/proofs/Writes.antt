@@ -1,13 +1,12 @@
 -- Bytes written in hexadecimal, two digits at a time; and a text written from place 0 on, as an answer.
-use Rattle.std.proofs.Common.{◌≡◌, ℕ, ◌+◌, ◌*◌, ◌/◌, ◌%◌, ◌<◌, ◌≤◌, true, false, leb, List, [], ◌∷◌, ◌++◌, length, get_or, take, drop, set, Ok, Err, Result, sym, refl, ap, ◌∙◌, zero-add, arith}
-use Rattle.std.proofs.lemmas.List.{append_assoc, flat_map_more, length-append, length-set, length-take-le, take_all, take_more}
+use Rattle.std.proofs.Common.{◌≡◌, ℕ, ◌+◌, ◌*◌, ◌/◌, ◌%◌, ◌<◌, ◌≤◌, true, false, leb, List, [], ◌∷◌, ◌++◌, length, get_or, take, drop, set, Ok, Err, sym, refl, ap, ◌∙◌, zero-add, arith}
+use Rattle.std.proofs.lemmas.List.{append_assoc, flat_map_more, length-set, length-take-le, take_all, take_more}
 use Rattle.std.proofs.lemmas.Bool.{cond-false, cond-true}
 use Rattle.listing.proofs.Laid.{laid_one, length_laid, wrote_more}
 use Rattle.listing.specs.Lines.{Wrote, laid}
 use Rattle.packet.specs.Answers.{over}
 use Rattle.packet_text.specs.Hex.{hex_byte, hex_digit, hex_text}
 use Rattle.packet_report.specs.Texts.{print_answer, room_for}
-use Rattle.refusal.specs.declared.Refusal.{Refusal}
 use Rattle.refusal.specs.declared.Refusal.TheVariants.{OutputTooShort}
 
 pub length_hex_text : (bs : List ℕ) → length (hex_text bs) ≡ 2 * length bs

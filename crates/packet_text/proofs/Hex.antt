@@ -1,11 +1,11 @@
 -- Hexadecimal digits: tested one by one, read two by two, and written again.
-use Rattle.std.proofs.Common.{◌≡◌, ℕ, zero, suc, ◌+◌, ◌-◌, ◌*◌, ◌/◌, ◌%◌, ◌<◌, ◌≤◌, Bool, true, false, cond, eqb, List, [], ◌∷◌, ◌++◌, length, get_or, take, drop, set, sym, refl, ap, ◌∙◌, arith}
+use Rattle.std.proofs.Common.{◌≡◌, ℕ, zero, suc, ◌+◌, ◌*◌, ◌/◌, ◌%◌, ◌<◌, ◌≤◌, Bool, true, false, cond, eqb, List, [], ◌∷◌, ◌++◌, length, get_or, take, drop, set, sym, refl, ap, ◌∙◌, arith}
 use Rattle.std.specs.List.{AllByRecursion as All}
 use Rattle.std.proofs.lemmas.List.{append_assoc, append-nil, at_drop_all, at_drop_more, drop-drop, drop-set-lt, length-take-le, take-append-drop, take_more_set}
 use Rattle.std.proofs.lemmas.Bool.{cond-false, cond-true, eq-eqb, eqb-true}
 use Rattle.std.proofs.lemmas.Bool.Decides.{nat_tests}
 use Rattle.packet.specs.Answers.{over}
-use Rattle.packet_text.specs.Hex.{all_hex, hex_byte, hex_bytes, hex_digit, hex_text, hex_value, is_hex, is_hex_digit}
+use Rattle.packet_text.specs.Hex.{all_hex, hex_bytes, hex_digit, hex_text, hex_value, is_hex, is_hex_digit}
 
 pub both : (b p : Bool) → cond b p false ≡ true → (b ≡ true) × (p ≡ true)
 both true p e = (refl, e)

@@ -1,5 +1,5 @@
 -- A packet as a line: the client's number in decimal, a blank, the bytes in hexadecimal, a newline.
-use Rattle.std.specs.Prelude.{◌≡◌, ℕ, ◌+◌, ◌/◌, ◌<◌, Bool, true, false, cond, List, [], ◌∷◌, ◌++◌, length, Some, None, Ok, Err, codes, decimal, Option, Result, ◌==◌, nat_le}
+use Rattle.std.specs.Prelude.{◌≡◌, ℕ, ◌<◌, cond, List, [], ◌∷◌, ◌++◌, length, Some, None, Ok, Err, codes, decimal, Option, Result, ◌==◌, nat_le}
 use Rattle.std.specs.List.{AllByRecursion as All}
 use Rattle.form.specs.Form.{after, bind, number}
 use Rattle.refusal.specs.declared.Refusal.{Refusal}

@@ -1,7 +1,7 @@
-use Rattle.std.proofs.Common.{◌≡◌, ℕ, zero, suc, ◌+◌, ◌-◌, ◌*◌, ◌/◌, ◌%◌, ◌^◌, ◌<◌, ◌≤◌, List, [], ◌∷◌, ◌++◌, length, get_or, take, drop, sym, refl, ap, ◌∙◌, subst, append_assoc, add-suc, mul_assoc, mul_comm, suc-add, pow-suc, zero-add, div-one, add-one, arith, length-drop, pow_pos, shr-shr}
+use Rattle.std.proofs.Common.{◌≡◌, ℕ, zero, suc, ◌+◌, ◌-◌, ◌*◌, ◌/◌, ◌%◌, ◌^◌, ◌<◌, ◌≤◌, List, [], ◌∷◌, ◌++◌, length, get_or, take, drop, sym, refl, ap, ◌∙◌, mul_assoc, mul_comm, suc-add, zero-add, div-one, arith, length-drop}
 use Rattle.std.proofs.Math.Nat.{pow-succ', div-div-eq-div-mul}
 use Rattle.std.proofs.Math.Pow.{high}
-use Rattle.std.proofs.lemmas.List.{drop_more, take_at, drop_at, append-nil, drop_all, drop-drop}
+use Rattle.std.proofs.lemmas.List.{drop_more, take_at, drop_at, drop_all, drop-drop}
 use Rattle.payload.specs.Bits.{low, bits}
 
 -- the number that bytes write, lowest byte first

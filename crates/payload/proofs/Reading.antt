@@ -1,5 +1,5 @@
 -- The words that are read at half-byte places are the bits of two blocks.
-use Rattle.std.proofs.Common.{◌≡◌, ℕ, zero, suc, ◌+◌, ◌*◌, ◌/◌, ◌%◌, ◌^◌, ◌<◌, ◌≤◌, List, [], ◌∷◌, ◌++◌, map, length, get_or, take, drop, sym, refl, ap, ◌∙◌, append_assoc, arith, lit<}
+use Rattle.std.proofs.Common.{◌≡◌, ℕ, zero, suc, ◌+◌, ◌*◌, ◌/◌, ◌%◌, ◌^◌, ◌<◌, List, [], ◌∷◌, ◌++◌, map, length, get_or, take, drop, sym, ap, ◌∙◌, append_assoc, arith, lit<}
 use Rattle.std.specs.Int.Bits.{bit_and, bit_or, or_shifted_r}
 use Rattle.std.proofs.lemmas.Nat.{and_mask, mod-pow-add}
 use Rattle.std.proofs.lemmas.List.{drop-drop, drop-take, take_all, take-append-drop, take-take}
@@ -8,7 +8,7 @@ use Rattle.block.specs.declared.Sync.TheVariants.{Zeros, Control, Data, Ones}
 use Rattle.block.specs.Syncs.{sync_bits, sync_number}
 use Rattle.block.specs.Whole.{Bytes}
 use Rattle.payload.specs.Bits.{low, bits}
-use Rattle.payload.proofs.Laws.{num, low_join, low_more, length_bits, num_word, pair_join, word_at}
+use Rattle.payload.proofs.Laws.{low_join, low_more, length_bits, num_word, pair_join, word_at}
 
 -- the sync bits are the two lowest bits of their number
 two_bits : (a b x : ℕ) → a < 2 → b < 2 → a + 2 * b ≡ x % 4 → a ∷ b ∷ [] ≡ low 2 x

@@ -1,5 +1,5 @@
 -- Slots in a whole payload: what is written to one is read from it, and all of them make up the payload.
-use Rattle.std.proofs.Common.{◌≡◌, ℕ, zero, suc, ◌+◌, ◌-◌, ◌*◌, ◌<◌, ◌≤◌, ◌⊎◌, List, [], ◌∷◌, ◌++◌, map, length, get_or, take, drop, set, sym, refl, ap, ◌∙◌, inl, inr, ⊎_elim, append_assoc, arith, length-append, length-drop, below_more}
+use Rattle.std.proofs.Common.{◌≡◌, ℕ, zero, suc, ◌+◌, ◌-◌, ◌*◌, ◌<◌, ◌≤◌, List, [], ◌∷◌, ◌++◌, map, length, get_or, take, drop, set, sym, refl, ap, ◌∙◌, ⊎_elim, append_assoc, arith, length-append, length-drop, below_more}
 use Rattle.std.specs.List.{range_with_len, flat_map}
 use Rattle.std.proofs.lemmas.List.FromFn.{get_or-map-range_with_len, length-map-range_with_len}
 use Rattle.std.proofs.lemmas.List.{drop_at, drop-drop, drop-append-le, drop-take, ext_get_or, get_or-set_other, get_or-set_same, flat_map_more, length-set, length-take-le, take_all, take_more, take-append-le, take_at, take-take}
@@ -9,7 +9,7 @@ use Rattle.block.specs.Whole.{Bytes}
 use Rattle.payload.specs.declared.Pair.{Pair}
 use Rattle.payload.specs.Bits.{bits, bytes_of, splice}
 use Rattle.payload.specs.Pairs.{pair_bits, pair_of, WholePair}
-use Rattle.payload.specs.Payloads.{pair_at, pairs_of, payload_of, slot_bits}
+use Rattle.payload.specs.Payloads.{pair_at, pairs_of, payload_of}
 use Rattle.payload.proofs.Back.{Bits, append_bits, bits_back, bits_bits, bytes_back, drop_bits_bits, pair_back, pair_bits_back, pair_is_bits, pair_length, take_bits}
 use Rattle.payload.proofs.Laws.{length_bits}
 use Rattle.payload.proofs.Reading.{take_add}

@@ -1,5 +1,5 @@
 -- Two blocks at a time: taken from an inlet, and moved from an inlet to an outlet.
-use Rattle.std.specs.Prelude.{ℕ, List, [], ◌∷◌, Some, None, Ok, Err, Option, Result}
+use Rattle.std.specs.Prelude.{ℕ, List, Some, None, Ok, Err, Option, Result}
 use Rattle.block.specs.declared.Block.{Block}
 use Rattle.refusal.specs.declared.Refusal.{Refusal}
 use Rattle.port.specs.Model.{Lists, first_of, rest_of, taken}

@@ -1,10 +1,10 @@
 -- What the claims of a line's groups come to, in words of slots.
-use Rattle.std.proofs.Common.{◌≡◌, ℕ, ◌+◌, ◌-◌, ◌<◌, ◌≤◌, Bool, true, false, cond, ◌⊎◌, List, [], ◌∷◌, ◌++◌, length, sym, refl, ap, ◌∙◌, subst, inl, inr, ⊎_elim, arith}
+use Rattle.std.proofs.Common.{◌≡◌, ℕ, ◌≤◌, Bool, true, false, cond, List, [], ◌∷◌, length, sym, refl, ap, ◌∙◌, subst, inl, inr, ⊎_elim, arith}
 use Rattle.std.proofs.lemmas.Bool.{cond-true, cond-false, cases_Bool}
 use Rattle.form.specs.Lease.{Group}
 use Rattle.sheet.specs.Verdict.{Claim, claimed, claims, fits, give, used}
 use Rattle.sheet.specs.Laws.{Apart, GroupsInRange, HeldBy, Holds}
-use Rattle.sheet.proofs.Held.{at, held_or_not, holds_or_not, held_in_range, fits_in_range, in_range_fits, length_give, give_held, give_other, used_some, used_none}
+use Rattle.sheet.proofs.Held.{at, held_or_not, held_in_range, fits_in_range, in_range_fits, length_give, give_held, give_other, used_some, used_none}
 
 pub false_true : false ≡ true → ⊥
 false_true e = let z : ◌≡◌ {A = ℕ} 0 1 = cc in omega arith

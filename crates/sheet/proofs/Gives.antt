@@ -1,9 +1,9 @@
 -- Slots given to a client one by one.
-use Rattle.std.proofs.Common.{◌≡◌, ℕ, ◌+◌, ◌-◌, ◌<◌, ◌≤◌, Bool, true, false, cond, eqb, List, [], ◌∷◌, ◌++◌, length, get_or, take, drop, set, replicate, is_some, Some, None, Ok, Err, Option, sym, refl, ap, ◌∙◌, add-zero, add_assoc, arith}
-use Rattle.std.proofs.lemmas.List.{append-nil, append_assoc, take_more, drop_more, length-append, length-replicate, length-take-le, set_at, get_or_at, replicate_more, get_or-drop, length-drop, take-append-drop}
+use Rattle.std.proofs.Common.{◌≡◌, ℕ, ◌+◌, ◌-◌, ◌<◌, ◌≤◌, Bool, true, false, cond, eqb, List, [], ◌∷◌, ◌++◌, length, get_or, take, drop, set, replicate, is_some, Some, None, Ok, Option, sym, refl, ap, ◌∙◌, add-zero, add_assoc, arith}
+use Rattle.std.proofs.lemmas.List.{append_assoc, take_more, drop_more, length-append, length-replicate, length-take-le, set_at, get_or_at, replicate_more, get_or-drop, length-drop, take-append-drop}
 use Rattle.numbers.specs.declared.ClientNumber.{ClientNumber}
 use Rattle.calendar.specs.Entries.{entry_of}
-use Rattle.std.proofs.lemmas.Bool.{cond-true, cond-false, ne_eqb}
+use Rattle.std.proofs.lemmas.Bool.{cond-false, ne_eqb}
 use Rattle.std.proofs.lemmas.Bool.Decides.{nat_tests}
 use Rattle.numbers.specs.Range.{checked}
 use Rattle.sheet.specs.Verdict.{gave, filled}

@@ -1,10 +1,10 @@
 -- Entries slot by slot: what giving a group changes, and when one of its slots is taken.
-use Rattle.std.proofs.Common.{◌≡◌, ℕ, zero, suc, ◌+◌, ◌-◌, ◌<◌, ◌≤◌, Bool, true, false, cond, eqb, leb, ◌⊎◌, List, [], ◌∷◌, ◌++◌, length, get_or, take, drop, replicate, sym, refl, ap, ◌∙◌, inl, inr, ⊎_elim, arith}
+use Rattle.std.proofs.Common.{◌≡◌, ℕ, zero, suc, ◌+◌, ◌-◌, ◌<◌, ◌≤◌, true, false, eqb, ◌⊎◌, List, [], ◌∷◌, ◌++◌, length, get_or, take, drop, replicate, sym, refl, ap, ◌∙◌, inl, inr, ⊎_elim, arith}
 use Rattle.std.proofs.lemmas.List.{length-append, length-replicate, length-take-le, length-drop, length-take, get_or_append_left, get_or-append_right, get_or-take, get_or-drop, get_or-replicate}
-use Rattle.std.proofs.lemmas.Bool.{cases_lt, eqb-true, eqb-false, cond-true, cond-false}
+use Rattle.std.proofs.lemmas.Bool.{cases_lt, cond-true, cond-false}
 use Rattle.std.proofs.lemmas.Bool.Decides.{eqb_tells, nat_tests}
 use Rattle.form.specs.Lease.{Group}
-use Rattle.sheet.specs.Verdict.{filled, fits, gave, give, in_order, size, used}
+use Rattle.sheet.specs.Verdict.{filled, fits, give, size, used}
 use Rattle.sheet.specs.Laws.{GroupsInRange, HeldBy, Holds}
 
 -- the entry of slot k

@@ -1,16 +1,15 @@
 -- Lists of leases with one lease more, and the calendars that they give.
-use Rattle.std.proofs.Common.{◌≡◌, ℕ, ◌+◌, ◌-◌, ◌<◌, ◌≤◌, Bool, true, false, cond, ltb, leb, ◌⊎◌, List, [], ◌∷◌, ◌++◌, length, get_or, sym, refl, ap, ◌∙◌, subst, inl, inr, ⊎_elim, arith}
+use Rattle.std.proofs.Common.{◌≡◌, ℕ, ◌<◌, ◌≤◌, true, false, ltb, ◌⊎◌, List, [], ◌∷◌, ◌++◌, sym, refl, ap, ◌∙◌, subst, inl, inr, ⊎_elim, arith}
 use Rattle.std.proofs.lemmas.List.{append_assoc, append-nil}
-use Rattle.std.proofs.lemmas.Bool.{cond-true, cond-false, cases_Bool, ltb-true, lt-ltb, cases_eq}
+use Rattle.std.proofs.lemmas.Bool.{cond-true, ltb-true, lt-ltb, cases_eq}
 use Rattle.std.proofs.lemmas.Bool.Decides.{nat_tests}
 use Rattle.numbers.specs.Range.{in_range}
 use Rattle.calendar.specs.Share.{first_slot, slot_count}
 use Rattle.calendar.proofs.Shares.{share_law}
 use Rattle.form.specs.Lease.{Group, Lease, SomeGroup}
 use Rattle.sheet.specs.Verdict.{named}
-use Rattle.sheet.specs.Laws.{Apart, Belongs, EachLawful, Gives, GroupsInRange, HeldBy, Holds, InRange, Lawful, Leases, groups_of}
+use Rattle.sheet.specs.Laws.{Apart, Belongs, EachLawful, Gives, GroupsInRange, HeldBy, InRange, Lawful, Leases, groups_of}
 use Rattle.sheet.proofs.Held.{at, held_in_range}
-use Rattle.sheet.proofs.Claiming.{false_true}
 
 -- groups behind groups
 

@@ -1,18 +1,18 @@
 -- The laws of the sheet: lawful leases are accepted, nothing else is, and the first fault refuses.
-use Rattle.std.proofs.Common.{◌≡◌, ℕ, zero, suc, ◌+◌, ◌-◌, ◌<◌, ◌≤◌, Bool, true, false, cond, ltb, ◌⊎◌, List, [], ◌∷◌, ◌++◌, length, get_or, replicate, is_some, is_ok, Some, None, Ok, Err, Option, Result, sym, refl, ap, ◌∙◌, subst, inl, inr, ⊎_elim, arith, MatchResult}
+use Rattle.std.proofs.Common.{◌≡◌, ℕ, ◌+◌, ◌-◌, ◌<◌, ◌≤◌, Bool, true, false, ltb, ◌⊎◌, List, [], ◌∷◌, ◌++◌, length, replicate, is_some, is_ok, Some, None, Ok, Err, Option, Result, sym, refl, ap, ◌∙◌, subst, inl, inr, ⊎_elim, arith, MatchResult}
 use Rattle.std.proofs.lemmas.List.{append_assoc, append-nil, get_or-replicate, length_push}
 use Rattle.std.proofs.lemmas.Bool.{cond-true, cond-false, cases_Bool, ltb-true, ltb-false}
-use Rattle.refusal.specs.declared.Refusal.TheVariants.{MarkNotAllowed, FormBroken, OutOfRange, SlotTwice, ClientTwice}
-use Rattle.refusal.specs.declared.Level.TheVariants.{Marks, Forms, Calendar}
+use Rattle.refusal.specs.declared.Refusal.TheVariants.{MarkNotAllowed, FormBroken}
+use Rattle.refusal.specs.declared.Level.TheVariants.{Marks, Forms}
 use Rattle.refusal.specs.declared.SheetRefusal.{SheetRefusal}
-use Rattle.form.specs.Lease.{Group, Lease, SomeGroup, Writable, lease_text}
+use Rattle.form.specs.Lease.{Lease, Writable, lease_text}
 use Rattle.form.specs.Marks.{LineOf, lines, marked, mark_of}
 use Rattle.form.specs.Form as forms
 use Rattle.form.specs.declared.Mark.{Mark}
 use Rattle.form.proofs.Texts.{form_is, form_reads}
 use Rattle.form.proofs.Plain.{lines_rejoined, plain_lease, plain_line, plain_marked, rejoined}
 use Rattle.sheet.specs.Verdict.{chain, judged, leased, line_form, line_verdict, longest, refused, verdict}
-use Rattle.sheet.specs.Laws.{Apart, Breaks, EachLawful, FirstFault, Gives, InRange, Lawful, Leases, Refused, Rule, WritesOut, Stands, cause_of, client, form, groups_of, level_of, marks, order, range, sheet_text, slots, written, written_all}
+use Rattle.sheet.specs.Laws.{Apart, Breaks, EachLawful, Gives, InRange, Lawful, Leases, Refused, Rule, WritesOut, Stands, cause_of, client, form, groups_of, level_of, marks, order, range, sheet_text, slots, written, written_all}
 use Rattle.sheet.proofs.Claiming.{false_true}
 use Rattle.sheet.proofs.Leased.{apart_parts, each_last, groups_append, each_prefix}
 use Rattle.sheet.proofs.Steps.{not_long}

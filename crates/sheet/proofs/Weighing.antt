@@ -1,19 +1,15 @@
 -- One line's verdict, in words of leases.
-use Rattle.std.proofs.Common.{◌≡◌, ℕ, zero, suc, ◌+◌, ◌-◌, ◌<◌, ◌≤◌, Bool, true, false, cond, ◌⊎◌, List, [], ◌∷◌, ◌++◌, length, get_or, is_some, Some, None, Ok, Err, Option, Result, sym, refl, ap, ◌∙◌, subst, inl, inr, ⊎_elim, arith}
-use Rattle.std.proofs.lemmas.Bool.{cond-true, cond-false, cases_Bool}
-use Rattle.refusal.specs.declared.Refusal.TheVariants.{MarkNotAllowed, FormBroken, OutOfRange, SlotTwice, ClientTwice}
-use Rattle.refusal.specs.declared.Level.TheVariants.{Marks, Forms, Calendar}
+use Rattle.std.proofs.Common.{◌≡◌, ℕ, ◌≤◌, Bool, true, false, cond, ◌⊎◌, List, [], ◌∷◌, ◌++◌, Some, Ok, Err, Result, sym, refl, ap, ◌∙◌, subst, inl, inr, ⊎_elim, arith}
+use Rattle.std.proofs.lemmas.Bool.{cases_Bool}
+use Rattle.refusal.specs.declared.Refusal.TheVariants.{OutOfRange, SlotTwice, ClientTwice}
+use Rattle.refusal.specs.declared.Level.TheVariants.{Calendar}
 use Rattle.refusal.specs.declared.SheetRefusal.{SheetRefusal}
-use Rattle.form.specs.Lease.{Group, Lease, SomeGroup, Writable, ShortGroups, lease_text}
-use Rattle.form.specs.Marks.{LineOf, marked, mark_of}
-use Rattle.form.specs.Form as forms
-use Rattle.form.proofs.Texts.{form_is, form_reads}
-use Rattle.form.proofs.Plain.{plain_lease, plain_marked}
-use Rattle.sheet.specs.Verdict.{Claim, claims, leased, line_form, line_verdict, named, refused, start, weighed}
-use Rattle.sheet.specs.Laws.{Apart, Belongs, Breaks, EachLawful, Gives, GroupsInRange, HeldBy, InRange, Lawful, Leases, Rule, Stands, cause_of, groups_of, level_of, marks, form, range, client, slots, order, written}
+use Rattle.form.specs.Lease.{Group, Lease, SomeGroup, Writable, ShortGroups}
+use Rattle.sheet.specs.Verdict.{Claim, claims, leased, named, refused, start}
+use Rattle.sheet.specs.Laws.{Apart, Belongs, Gives, GroupsInRange, InRange, Lawful, Leases, groups_of}
 use Rattle.sheet.proofs.Held.{at, held_or_not, held_in_range}
 use Rattle.sheet.proofs.Claiming.{Came, claims_come, false_true, lawful_client, lawful_in_range}
-use Rattle.sheet.proofs.Leased.{apart_join, apart_parts, belongs_held, belongs_none, belongs_other, belongs_taken, crossed, each_last, each_snoc, groups_snoc, held_left, lease_is_named, named_has_lease}
+use Rattle.sheet.proofs.Leased.{apart_join, apart_parts, belongs_held, belongs_none, belongs_other, belongs_taken, crossed, each_last, each_snoc, groups_snoc, lease_is_named, named_has_lease}
 
 -- the leases of the lines before, and the entries that they give
 abbrev pub State : List Lease → List ℕ → Type 0

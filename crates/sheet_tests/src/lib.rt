@@ -49,9 +49,10 @@ mod tests {
         Ok(())
     }
 
-    // A sheet is refused.
+    // A sheet, the case of this number, is refused.
     fn refused(
         rt: &impl Abort,
+        case: usize,
         sheet: &[u8],
         cause: Refusal,
         level: Level,
@@ -59,7 +60,11 @@ mod tests {
     ) -> Result<(), Fail> {
         let mut calendar = Calendar::empty();
         let answer = sheet::read(sheet, &mut calendar);
-        assert_eq!(rt; answer, Err(SheetRefusal { cause, level, line }));
+        assert_eq!(rt;
+            answer,
+            Err(SheetRefusal { cause, level, line }),
+            "case {case}"
+        );
         Ok(())
     }
 
@@ -71,7 +76,7 @@ mod tests {
         cases: &[(&[u8], usize)],
     ) -> Result<(), Fail> {
         for (i, case) in cases.iter().enumerate() {
-            refused(rt, case.0, cause, level, case.1).note(format_args!("case {i}"))?;
+            refused(rt, i, case.0, cause, level, case.1)?;
         }
         Ok(())
     }
@@ -264,12 +269,13 @@ mod tests {
         bytes[0..23].copy_from_slice(b"(client 7 (slots 1 4))\n");
         refused(
             &rt,
+            0,
             &bytes[0..16384],
             Refusal::MarkNotAllowed,
             Level::Marks,
             2,
         )?;
-        refused(&rt, &bytes, Refusal::FormBroken, Level::Forms, 1)
+        refused(&rt, 1, &bytes, Refusal::FormBroken, Level::Forms, 1)
     }
 
     #[test]

@@ -1,19 +1,18 @@
 -- A packet through an inlet of its own: what waits there, and what a move of its pairs adds.
-use Rattle.std.proofs.Common.{◌≡◌, ℕ, ◌+◌, ◌-◌, ◌*◌, ◌/◌, ◌%◌, ◌<◌, ◌≤◌, true, false, cond, eqb, List, [], ◌∷◌, ◌++◌, length, replicate, Ok, Err, sum, Result, sym, refl, ap, ◌∙◌, add-zero, arith}
+use Rattle.std.proofs.Common.{◌≡◌, ℕ, ◌+◌, ◌-◌, ◌*◌, ◌/◌, ◌%◌, true, List, [], ◌∷◌, ◌++◌, length, replicate, Ok, Err, sum, Result, sym, ap, ◌∙◌, add-zero, arith}
 use Rattle.std.proofs.lemmas.List.{append-nil, take_all}
 use Rattle.std.proofs.lemmas.Bool.{cond-true, eq-eqb}
 use Rattle.std.proofs.lemmas.List.Sums.{sum_by-cons}
 use Rattle.block.specs.declared.Block.{Block}
 use Rattle.block.specs.Fixed.{idle_block}
 use Rattle.refusal.specs.declared.Refusal.{Refusal}
-use Rattle.refusal.specs.declared.Refusal.TheVariants.{PacketLength}
 use Rattle.port.specs.Model.{Holding, Lists, updated}
 use Rattle.packet.specs.Answers.{GivesBack}
 use Rattle.packet.specs.Format.{blocks_of, in_range}
 use Rattle.packet_inlet.specs.Packets.{are_lengths, blocks_of_all, packets_of}
 use Rattle.packet_inlet.specs.Waiting.{new_answer, only_for}
 use Rattle.transfer.specs.Runs.{AllMoved, FillsBehind, NoneMoved, padded}
-use Rattle.transfer.specs.Stored.{ComesBack, PacketRefused, PacketStored, evened, paired_blocks}
+use Rattle.transfer.specs.Stored.{ComesBack, PacketRefused, PacketStored}
 use Rattle.transfer.proofs.Runs.{padded_front, padded_none, updated_here}
 
 pub fills_behind : FillsBehind

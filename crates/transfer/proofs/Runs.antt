@@ -1,12 +1,12 @@
 -- Runs of blocks, one block or one pair more at a time; and lists of one client updated again.
-use Rattle.std.proofs.Common.{◌≡◌, ℕ, zero, suc, ◌+◌, ◌*◌, ◌≤◌, Bool, true, false, cond, eqb, List, [], ◌∷◌, ◌++◌, length, drop, replicate, sym, refl, ap, ◌∙◌, add-one, arith}
+use Rattle.std.proofs.Common.{◌≡◌, ℕ, zero, suc, ◌+◌, Bool, true, false, cond, eqb, List, [], ◌∷◌, ◌++◌, length, drop, replicate, sym, refl, ap, ◌∙◌, add-one, arith}
 use Rattle.std.proofs.Math.Path.{fun_ext}
 use Rattle.std.proofs.lemmas.Bool.{eqb-true, eq-eqb}
 use Rattle.std.proofs.lemmas.List.{append_assoc}
 use Rattle.block.specs.declared.Block.{Block}
 use Rattle.port.specs.Model.{Lists, updated, first_of, rest_of}
 use Rattle.port.specs.Pairs.{or_filler}
-use Rattle.transfer.specs.Runs.{FillsBehind, padded, without}
+use Rattle.transfer.specs.Runs.{padded}
 
 pub updated_here : (lists : Lists) (c : ℕ) (l : List Block) → updated lists c l c ≡ l
 updated_here lists c l = rw (eq-eqb c c refl) refl

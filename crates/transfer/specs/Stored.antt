@@ -4,7 +4,7 @@ use Rattle.block.specs.declared.Block.{Block}
 use Rattle.block.specs.Fixed.{idle_block}
 use Rattle.refusal.specs.declared.Refusal.{Refusal}
 use Rattle.refusal.specs.declared.Refusal.TheVariants.{NoFreePlace, PacketLength}
-use Rattle.port.specs.Model.{Lists, Holding, updated}
+use Rattle.port.specs.Model.{Holding, updated}
 use Rattle.packet.specs.Answers.{over}
 use Rattle.packet.specs.Format.{in_range, blocks_of}
 

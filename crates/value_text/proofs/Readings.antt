@@ -1,9 +1,9 @@
 -- Bytes are read back from their hexadecimal text.
-use Rattle.std.proofs.Common.{◌≡◌, ℕ, suc, ◌+◌, ◌*◌, ◌/◌, ◌%◌, ◌<◌, ◌≤◌, Bool, true, false, ltb, List, [], ◌∷◌, refl, ◌∙◌, ap₂, arith}
+use Rattle.std.proofs.Common.{◌≡◌, ℕ, suc, ◌+◌, ◌*◌, ◌/◌, ◌%◌, ◌<◌, ◌≤◌, Bool, true, false, ltb, List, [], ◌∷◌, refl, ap₂, arith}
 use Rattle.std.specs.List.{flat_map}
 use Rattle.std.proofs.lemmas.Bool.{lt-ltb, le-ltb, ltb-true, ltb-false}
 use Rattle.block.specs.Whole.{Bytes}
-use Rattle.value_text.specs.Texts.{digit_value, hex_digit, hex_of, spaced_byte, spaced_read, HexReadsBack}
+use Rattle.value_text.specs.Texts.{digit_value, hex_digit, spaced_byte, spaced_read, HexReadsBack}
 
 digit_back : (d : ℕ) (b : Bool) → ltb d 10 ≡ b → d < 16 → digit_value (hex_digit d) ≡ d
 digit_back d true e l =

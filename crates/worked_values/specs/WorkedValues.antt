@@ -1,5 +1,5 @@
 -- The worked values of the formats.
-use Rattle.std.specs.Prelude.{ℕ, List, [], ◌∷◌, ◌≡◌}
+use Rattle.std.specs.Prelude.{ℕ, [], ◌∷◌, ◌≡◌}
 use Rattle.block.specs.declared.Block.{Block}
 use Rattle.block.specs.declared.Sync.TheVariants.{Control}
 use Rattle.crc.specs.Bits.{field}

@@ -1,4 +1,4 @@
-use Rattle.std.proofs.Common.{◌≡◌, ℕ, ◌+◌, ◌-◌, ◌*◌, List, ◌++◌, sym, ap, ◌∙◌, arith}
+use Rattle.std.proofs.Common.{◌≡◌, ℕ, List, ◌++◌, ap, ◌∙◌, arith}
 use Rattle.frame.specs.Frames.{frame_block}
 use Rattle.frame.proofs.Carried.{data_at, end_at}
 use Rattle.frame.proofs.block_at.Goals as goal

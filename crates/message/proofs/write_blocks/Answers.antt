@@ -1,4 +1,4 @@
-use Rattle.std.proofs.Common.{◌≡◌, ℕ, ◌+◌, ◌-◌, ◌*◌, ◌++◌, length, take, drop, ap, ◌∙◌, arith}
+use Rattle.std.proofs.Common.{◌≡◌, ℕ, ◌-◌, ◌*◌, ◌++◌, length, take, drop, ap, ◌∙◌, arith}
 use Rattle.message.specs.Written.{message_blocks}
 use Rattle.message.specs.declared.Format.{Format}
 use Rattle.message.specs.Kinds.{blocks_of}

@@ -1,5 +1,5 @@
 use Rattle.std.proofs.Common.{◌≡◌, ◌+◌, ◌-◌, length, take, drop, ap, ◌∙◌, arith}
-use Rattle.packet.proofs.Copies.{Copied, copied_more, copied_end}
+use Rattle.packet.proofs.Copies.{copied_more, copied_end}
 use Rattle.packet.proofs.copy_bytes.Goals as goal
 
 pub loop-i-preserved : goal.loop-i-preserved

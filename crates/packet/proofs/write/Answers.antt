@@ -1,6 +1,6 @@
-use Rattle.std.proofs.Common.{◌≡◌, ◌+◌, ◌-◌, ◌*◌, ◌/◌, ◌<◌, length, refl, arith, length-set, rules, ltb-true}
+use Rattle.std.proofs.Common.{◌≡◌, ◌+◌, ◌-◌, ◌*◌, ◌/◌, length, refl, arith, length-set, rules}
 use Rattle.std.proofs.lemmas.List.{take_rest}
-use Rattle.packet.specs.Format.{blocks_of, data_blocks}
+use Rattle.packet.specs.Format.{data_blocks}
 use Rattle.packet.proofs.Blocks.{opened, data_put, completed}
 use Rattle.packet.proofs.write.Goals as goal
 

@@ -1,4 +1,4 @@
-use Rattle.std.proofs.Common.{refl, arith, rules, ltb-false, ltb-true}
+use Rattle.std.proofs.Common.{arith, rules, ltb-false, ltb-true}
 use Rattle.form.proofs.Digits.{leading_is}
 use Rattle.packet_text.proofs.digit.Goals as goal
 

@@ -1,6 +1,5 @@
-use Rattle.std.proofs.Common.{◌≡◌, ℕ, ◌/◌, List, [], ◌∷◌, ◌++◌, length, sym, ap, ◌∙◌, subst}
+use Rattle.std.proofs.Common.{ℕ, ◌/◌, List, [], ◌∷◌, ◌++◌, length, sym, ap, ◌∙◌, subst}
 use Rattle.block.specs.Whole.{Bytes}
-use Rattle.block.specs.Syncs.{sync_bits}
 use Rattle.payload.specs.Bits.{low, bits}
 use Rattle.payload.proofs.Reading.{sync_low, mod_bytes}
 use Rattle.payload.proofs.Writing.{bits_word}

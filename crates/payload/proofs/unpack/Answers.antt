@@ -1,5 +1,4 @@
 use Rattle.std.proofs.Common.{◌≡◌, ℕ, List, ap, ◌∙◌, arith}
-use Rattle.payload.specs.declared.Pair.{Pair}
 use Rattle.payload.specs.Payloads.{pairs_of, payload_of}
 use Rattle.std.proofs.lemmas.List.{length-set}
 use Rattle.payload.proofs.Slots.{blank, pair_at_is, pairs_are, unpacked_two, unpacking_undone}

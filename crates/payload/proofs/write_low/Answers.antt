@@ -1,4 +1,4 @@
-use Rattle.std.proofs.Common.{ℕ, ◌+◌, ◌*◌, List, ap, ◌∙◌, arith}
+use Rattle.std.proofs.Common.{ℕ, ◌*◌, List, ap, ◌∙◌, arith}
 use Rattle.payload.specs.Bits.{bits, splice}
 use Rattle.payload.proofs.Laws.{length_bits}
 use Rattle.payload.proofs.Writing.{low_write, pair_sent, sync_small}

@@ -1,5 +1,4 @@
 use Rattle.std.proofs.Common.{◌≡◌, ℕ, ◌-◌, ◌*◌, List, set, ap, ◌∙◌, arith}
-use Rattle.payload.specs.declared.Pair.{Pair}
 use Rattle.payload.specs.Bits.{bits, splice}
 use Rattle.payload.specs.Pairs.{pair_bits}
 use Rattle.payload.specs.Payloads.{pairs_of}

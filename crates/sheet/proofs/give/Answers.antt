@@ -1,4 +1,4 @@
-use Rattle.std.proofs.Common.{◌≡◌, ℕ, ◌+◌, ◌-◌, ◌≤◌, Bool, true, false, cond, eqb, List, length, get_or, take, drop, set, Ok, Err, sym, refl, ap, ◌∙◌, arith}
+use Rattle.std.proofs.Common.{◌≡◌, ℕ, ◌+◌, ◌-◌, ◌≤◌, true, false, cond, eqb, List, get_or, take, drop, set, Ok, Err, sym, ap, ◌∙◌, arith}
 use Rattle.calendar.specs.Entries.{entries_of}
 use Rattle.calendar.proofs.Facts.{entries_length}
 use Rattle.sheet.specs.Verdict.{filled, gave}

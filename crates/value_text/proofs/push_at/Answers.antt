@@ -1,4 +1,4 @@
-use Rattle.std.proofs.Common.{string_bytes, ap, ◌∙◌, arith, lit<}
+use Rattle.std.proofs.Common.{string_bytes, arith, lit<}
 use Rattle.value_text.proofs.HexDigits.{blank_pushed}
 use Rattle.value_text.proofs.push_at.Goals as goal
 

@@ -1,4 +1,4 @@
-use Rattle.std.proofs.Common.{◌≡◌, ℕ, ◌/◌, ◌%◌, List, [], ◌∷◌, string_bytes, ap, ◌∙◌}
+use Rattle.std.proofs.Common.{ℕ, ◌/◌, ◌%◌, List, [], ◌∷◌, string_bytes, ap, ◌∙◌}
 use Rattle.value_text.specs.Texts.{hex_digit}
 use Rattle.value_text.proofs.HexDigits.{two_pushed}
 use Rattle.value_text.proofs.push_byte.Goals as goal

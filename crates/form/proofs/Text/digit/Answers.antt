@@ -1,4 +1,4 @@
-use Rattle.std.proofs.Common.{◌<◌, ◌≤◌, length, get_or, sym, refl, ap, ◌∙◌, arith, rules, ltb-false, ltb-true}
+use Rattle.std.proofs.Common.{refl, arith, rules, ltb-false, ltb-true}
 use Rattle.form.proofs.Digits.{leading_is}
 use Rattle.form.proofs.Text.digit.Goals as goal
 
