@@ -1,5 +1,5 @@
 -- A frame carries seven overhead bytes and 7,920 payload bytes, one after the other, in its data blocks and its end block.
-use Rattle.std.specs.Prelude.{◌≡◌, ℕ, ◌+◌, ◌-◌, ◌*◌, ◌≤◌, cond, List, [], ◌∷◌, ◌++◌, map, length, get_or, take, drop, ◌==◌, slice_index_or}
+use Rattle.std.specs.Prelude.{◌≡◌, ℕ, ◌+◌, ◌-◌, ◌*◌, ◌≤◌, cond, List, [], ◌∷◌, ◌++◌, map, length, take, drop, ◌==◌, slice_index_or}
 use Rattle.std.specs.List.{range_with_len, flat_map}
 use Rattle.block.specs.declared.Block.{Block}
 use Rattle.block.specs.declared.Sync.TheVariants.{Control, Data}
@@ -21,7 +21,7 @@ frame_of carried = map (frame_block carried) (range_with_len 1 992)
 
 -- the bytes that a frame's blocks carry
 abbrev pub carried_by : List Block → List ℕ
-carried_by blocks = flat_map (λ (b : Block). b.bytes) (take 990 (drop 1 blocks)) ++ drop 1 (get_or blocks 991 start_block).bytes
+carried_by blocks = flat_map (λ (b : Block). b.bytes) (take 990 (drop 1 blocks)) ++ drop 1 (slice_index_or blocks 991 start_block).bytes
 
 -- the carried bytes, with those of the block at a place stored
 abbrev pub stored : ℕ → List ℕ → List ℕ → List ℕ
@@ -40,6 +40,6 @@ FrameRestored = (carried before : List ℕ) → length carried ≡ 7927 → leng
 
 -- the shape of a frame: the start block, 990 data blocks, an end that carries seven bytes
 pub record Shaped (blocks : List Block) : Type 0 where
-  pub opens : get_or blocks 0 start_block ≡ start_block
+  pub opens : slice_index_or blocks 0 start_block ≡ start_block
   pub data_blocks : (n : ℕ) → 1 ≤ n → n ≤ 990 → class_of (slice_index_or blocks n start_block) ≡ DataClass
   pub ends : class_of (slice_index_or blocks 991 start_block) ≡ End 7

@@ -1,6 +1,6 @@
 -- A line's parts one after another: read, and written out.
 use Rattle.std.proofs.Common.{◌≡◌, ℕ, ◌+◌, ◌/◌, ◌%◌, ◌<◌, ◌≤◌, Bool, true, false, cond, eqb, ltb, leb, List, [], ◌∷◌, ◌++◌, length, Some, None, Ok, Err, codes, decimal, Option, sym, refl, ap, ◌∙◌, subst, ⊎_elim, arith}
-use Rattle.std.specs.List.{AllByRecursion as All}
+use Rattle.std.specs.List.{AllByRecursion}
 use Rattle.std.proofs.lemmas.Fmt.{decimal_digit, decimal_step}
 use Rattle.std.proofs.lemmas.List.{nil_from_length}
 use Rattle.std.proofs.lemmas.Bool.{cases_lt, cond-false, cond-true, eq-eqb, eqb-true, le-leb, le-ltb, lt-leb, lt-ltb, ne_eqb}
@@ -117,7 +117,7 @@ only_lines_read xs c bs e =
     let client : q.0 ≡ c = ap (λ r. r.0) pair in
     let bytes : hex_bytes q.1 ≡ bs = ap (λ r. r.1) pair in
     let P : ℕ → Type 0 = λ n. n < 1000 in
-    let Q : List ℕ → Type 0 = λ t. All (λ b. b < 256) t in (
+    let Q : List ℕ → Type 0 = λ t. AllByRecursion (λ b. b < 256) t in (
       subst P client is.0,
       subst Q bytes hex.0,
       is.2

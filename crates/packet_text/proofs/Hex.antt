@@ -1,6 +1,6 @@
 -- Hexadecimal digits: tested one by one, read two by two, and written again.
 use Rattle.std.proofs.Common.{◌≡◌, ℕ, zero, suc, ◌+◌, ◌*◌, ◌/◌, ◌%◌, ◌<◌, ◌≤◌, Bool, true, false, cond, eqb, List, [], ◌∷◌, ◌++◌, length, get_or, take, drop, set, sym, refl, ap, ◌∙◌, arith}
-use Rattle.std.specs.List.{AllByRecursion as All}
+use Rattle.std.specs.List.{AllByRecursion}
 use Rattle.std.proofs.lemmas.List.{append_assoc, append-nil, at_drop_all, at_drop_more, drop-drop, drop-set-lt, length-take-le, take-append-drop, take_more_set}
 use Rattle.std.proofs.lemmas.Bool.{cond-false, cond-true, eq-eqb, eqb-true}
 use Rattle.std.proofs.lemmas.Bool.Decides.{nat_tests}
@@ -86,7 +86,7 @@ value_back n h = (grind (arith, nat_tests), grind (arith, nat_tests))
 -- digits, two for each byte, are the bytes' text
 pub text_of_bytes :
     (k : ℕ) (xs : List ℕ) → all_hex xs ≡ true → length xs ≡ 2 * k →
-    All (λ b. b < 256) (hex_bytes xs) × (hex_text (hex_bytes xs) ≡ xs)
+    AllByRecursion (λ b. b < 256) (hex_bytes xs) × (hex_text (hex_bytes xs) ≡ xs)
 unfolding hex_bytes
 text_of_bytes k [] e n = (tt, refl)
 text_of_bytes k (x ∷ []) e n = absurd (omega arith)
@@ -110,7 +110,7 @@ text_of_bytes (suc k) (x ∷ y ∷ zs) e n =
 
 -- the text of bytes is digits, two for each, and gives the bytes back
 pub bytes_of_text :
-    (bs : List ℕ) → All (λ b. b < 256) bs → (all_hex (hex_text bs) ≡ true) × (length (hex_text bs) ≡ 2 * length bs) × (hex_bytes (hex_text bs) ≡ bs)
+    (bs : List ℕ) → AllByRecursion (λ b. b < 256) bs → (all_hex (hex_text bs) ≡ true) × (length (hex_text bs) ≡ 2 * length bs) × (hex_bytes (hex_text bs) ≡ bs)
 unfolding hex_bytes
 bytes_of_text [] all = (refl, refl, refl)
 bytes_of_text (b ∷ bs) all =
@@ -125,13 +125,13 @@ bytes_of_text (b ∷ bs) all =
       ap (λ v. v ∷ hex_bytes (hex_text bs)) value ∙ ap (λ t. b ∷ t) rest.2,
     )
 
-pub hex_text_is : (bs : List ℕ) → All (λ b. b < 256) bs → is_hex (hex_text bs) ≡ true
+pub hex_text_is : (bs : List ℕ) → AllByRecursion (λ b. b < 256) bs → is_hex (hex_text bs) ≡ true
 hex_text_is bs all =
     let t = bytes_of_text bs all in
     cond-true (all_hex (hex_text bs)) (eqb (length (hex_text bs) % 2) 0) false t.0
     ∙ eq-eqb (length (hex_text bs) % 2) 0 (omega (arith, t.1))
 
-pub hex_parts : (xs : List ℕ) → is_hex xs ≡ true → All (λ b. b < 256) (hex_bytes xs) × (hex_text (hex_bytes xs) ≡ xs)
+pub hex_parts : (xs : List ℕ) → is_hex xs ≡ true → AllByRecursion (λ b. b < 256) (hex_bytes xs) × (hex_text (hex_bytes xs) ≡ xs)
 hex_parts xs e =
     let h = both (all_hex xs) (eqb (length xs % 2) 0) e in
     let even = eqb-true (length xs % 2) 0 h.1 in

@@ -1,6 +1,6 @@
 -- A packet as a line: the client's number in decimal, a blank, the bytes in hexadecimal, a newline.
 use Rattle.std.specs.Prelude.{◌≡◌, ℕ, ◌<◌, cond, List, [], ◌∷◌, ◌++◌, length, Some, None, Ok, Err, codes, decimal, Option, Result, ◌==◌, nat_le}
-use Rattle.std.specs.List.{AllByRecursion as All}
+use Rattle.std.specs.List.{AllByRecursion}
 use Rattle.form.specs.Form.{after, bind, number}
 use Rattle.refusal.specs.declared.Refusal.{Refusal}
 use Rattle.refusal.specs.declared.Refusal.TheVariants.{FormBroken, OutputTooShort}
@@ -56,8 +56,8 @@ read_answer (Some line) places =
 
 -- Each client below 1,000 and its bytes, written out as a line, are read as just these.
 abbrev pub LinesRead : Type 0
-LinesRead = (c : ℕ) (bs : List ℕ) → c < 1000 → All (λ b. b < 256) bs → line_form (line_text c bs) ≡ Some (c, bs)
+LinesRead = (c : ℕ) (bs : List ℕ) → c < 1000 → AllByRecursion (λ b. b < 256) bs → line_form (line_text c bs) ≡ Some (c, bs)
 
 -- And what is read as a client and bytes is their line written out, and no other text.
 abbrev pub OnlyLinesRead : Type 0
-OnlyLinesRead = (xs : List ℕ) (c : ℕ) (bs : List ℕ) → line_form xs ≡ Some (c, bs) → (c < 1000) × All (λ b. b < 256) bs × (xs ≡ line_text c bs)
+OnlyLinesRead = (xs : List ℕ) (c : ℕ) (bs : List ℕ) → line_form xs ≡ Some (c, bs) → (c < 1000) × AllByRecursion (λ b. b < 256) bs × (xs ≡ line_text c bs)

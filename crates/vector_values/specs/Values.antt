@@ -1,5 +1,5 @@
 -- The text of each computed value, by the definition of the call that computes it.
-use Rattle.std.specs.Prelude.{ℕ, ◌-◌, cond, List, [], ◌∷◌, ◌++◌, get_or, replicate, Some, None, Ok, Err, codes, decimal, Option, Result, nat_le, nat_lt, slice_index, slice_index_or}
+use Rattle.std.specs.Prelude.{ℕ, ◌-◌, cond, List, [], ◌∷◌, ◌++◌, replicate, Some, None, Ok, Err, codes, decimal, Option, Result, nat_le, nat_lt, slice_index, slice_index_or}
 use Rattle.block.specs.declared.Block.{Block}
 use Rattle.block.specs.Fixed.{idle_block}
 use Rattle.refusal.specs.declared.Refusal.{Refusal}
@@ -48,7 +48,7 @@ idles n = replicate n idle_block
 
 -- the first byte of the block before the last
 abbrev pub end_type : List Block → ℕ → ℕ
-end_type blocks count = slice_index (get_or blocks (count - 2) idle_block).bytes 0
+end_type blocks count = slice_index (slice_index_or blocks (count - 2) idle_block).bytes 0
 
 -- how many blocks a packet has, and the type of its end
 abbrev pub made_text : ℕ → ℕ → List ℕ
