@@ -9,21 +9,10 @@ use calendar::Calendar;
 use listing::{LISTING_LEN, REFUSAL_LEN};
 use std::io;
 use std::io::{Read, Write};
+use std::process::ExitCode;
 
 // One byte more than the longest sheet, so that a longer one is seen to be too long.
 const ROOM: usize = sheet::LONGEST + 1;
-
-#[derive(Debug, Drop)]
-enum Failure {
-    Io(io::Error),
-    Refused,
-}
-
-impl From<io::Error> for Failure {
-    fn from(error: io::Error) -> Failure {
-        Failure::Io(error)
-    }
-}
 
 // Reads into `buf` until the input ends or `buf` is full, and answers how many bytes were read.
 fn fill<R: Read>(input: &mut R, buf: &mut [u8]) -> io::Result<usize>
@@ -40,7 +29,7 @@ fn fill<R: Read>(input: &mut R, buf: &mut [u8]) -> io::Result<usize>
     Ok(n)
 }
 
-fn main(rt: HostRuntime) -> Result<(), Failure> {
+fn main(rt: HostRuntime) -> io::Result<ExitCode> {
     let mut bytes = [0u8; ROOM];
     let n = fill(&mut rt.stdin(), &mut bytes)?;
     let mut calendar = Calendar::empty();
@@ -49,13 +38,13 @@ fn main(rt: HostRuntime) -> Result<(), Failure> {
             let mut text = [0u8; LISTING_LEN];
             let len = listing::listing(&calendar, &mut text);
             rt.stdout().write_all(&text[0..len])?;
-            Ok(())
+            Ok(ExitCode::SUCCESS)
         }
         Err(refusal) => {
             let mut text = [0u8; REFUSAL_LEN];
             let len = listing::refusal_line(refusal.cause, refusal.line, &mut text);
             rt.stdout().write_all(&text[0..len])?;
-            Err(Failure::Refused)
+            Ok(ExitCode::FAILURE)
         }
     }
 }
