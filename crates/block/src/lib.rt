@@ -6,7 +6,7 @@
 ghost use Rattle.std.specs.Prelude.{◌≡◌, ◌%◌, Decides};
 ghost use Rattle.block.specs.Classes.{class_of, control_class, end_class, is_end, is_lawful, is_start};
 ghost use Rattle.block.specs.Fixed.{error_block, idle_block, start_block};
-ghost use Rattle.block.specs.Same.{is_same};
+ghost use Rattle.block.specs.Same.{SameDecides, is_same};
 ghost use Rattle.block.specs.Syncs.{FirstBitLowest, sync_number};
 ghost use Rattle.std.specs.Cmp.Rules.{comparing};
 ghost use Rattle.std.proofs.Common.{rules};
@@ -39,6 +39,7 @@ impl PartialEq for Block {
     fn eq(&self, other: &Block) -> bool
         ensures eq { result ≡ is_same self.now other.now }
         ensures exact { Decides result (self.now ≡ other.now) }
+        ensures law { SameDecides }
     {
         self.sync == other.sync && self.bytes == other.bytes
     }
