@@ -49,10 +49,10 @@ mod tests {
         Ok(())
     }
 
-    // A sheet, the case of this number, is refused.
+    // A sheet, case `i`, is refused.
     fn refused(
         rt: &impl Abort,
-        case: usize,
+        i: usize,
         sheet: &[u8],
         cause: Refusal,
         level: Level,
@@ -63,7 +63,7 @@ mod tests {
         assert_eq!(rt;
             answer,
             Err(SheetRefusal { cause, level, line }),
-            "case {case}"
+            "case {i}"
         );
         Ok(())
     }
