@@ -1,9 +1,11 @@
 -- How a share grows by one entry, and what count and first slot say of a client's slots.
-use Rattle.std.proofs.Common.{◌≡◌, ℕ, zero, suc, ◌+◌, ◌-◌, ◌<◌, ◌≤◌, true, false, eqb, List, [], ◌∷◌, map, length, get_or, drop, Option, sym, refl, ap, ◌∙◌, inl, inr, arith}
+use Rattle.std.proofs.Common.{◌≡◌, ℕ, zero, suc, ◌+◌, ◌-◌, ◌<◌, ◌≤◌, true, false, eqb, List, [], ◌∷◌, cond, map, length, get_or, Option, sym, refl, ap, ◌∙◌, inl, inr, add_comm, ◌==◌, arith}
 use Rattle.std.proofs.lemmas.Bool.{cases_Bool, cond-true, cond-false, eq-eqb, ne_eqb, eqb-true, eqb-false}
-use Rattle.numbers.specs.declared.ClientNumber.{ClientNumber}
-use Rattle.calendar.specs.Entries.{entry_of}
-use Rattle.calendar.proofs.Facts.{entries_from}
+use Rattle.std.proofs.lemmas.List.Recursion.{is_count_by}
+use Rattle.std.proofs.lemmas.Bool.Decides.{nat_tests}
+use Rattle.std.specs.List.{count_by, position}
+use Rattle.std.specs.Option.{option_map_or}
+use Rattle.numbers.specs.Entries.{entry_of}
 use Rattle.calendar.specs.Share.{slot_count, first_from, first_slot, HasSlot, ShareLaw}
 
 pub count_yes : (c e : ℕ) (es : List ℕ) → eqb e c ≡ true → slot_count c (e ∷ es) ≡ slot_count c es + 1
@@ -107,39 +109,17 @@ share_law c es =
       together = (zero_count 1 c es (omega arith), zero_first 1 c es (omega arith));
     }
 
--- an entry of the client before the others: one slot more, and it is the first
-pub share_yes :
-    (c : ℕ) (os : List (Option ClientNumber)) (d : Option ClientNumber) (n i j : ℕ) →
-    j + 1 ≡ i → j < length os → entry_of (get_or os j d) ≡ c →
-    n ≡ slot_count c (drop i (map entry_of os)) →
-    (n + 1 ≡ slot_count c (drop j (map entry_of os))) × (j + 1 ≡ first_from (j + 1) c (drop j (map entry_of os)))
-share_yes c os d n i j e within own h =
-    let t : eqb (entry_of (get_or os j d)) c ≡ true = eq-eqb _ c own in
-    let split = entries_from os d i j e within in
-    let rest = drop i (map entry_of os) in
-    let count = count_yes c (entry_of (get_or os j d)) rest t in
-    let first = first_yes (j + 1) c (entry_of (get_or os j d)) rest t in
-    rw split (ap (λ m. m + 1) h ∙ sym count, sym first)
+-- the client's slots are counted among the entries
+pub is_count : (c : ℕ) (os : List (Option ℕ)) → slot_count c (map entry_of os) ≡ count_by (λ o. entry_of o == c) os
+is_count c os =
+    is_count_by (λ xs. slot_count c (map entry_of xs)) (λ o. entry_of o == c) refl
+    (λ x xs. ap (λ m. cond (entry_of x == c) m (slot_count c (map entry_of xs))) (add_comm (slot_count c (map entry_of xs)) 1)) os
 
--- any other entry before the others changes neither
-pub share_no :
-    (c : ℕ) (os : List (Option ClientNumber)) (d : Option ClientNumber) (n f i j : ℕ) →
-    j + 1 ≡ i → j < length os → (entry_of (get_or os j d) ≡ c → ⊥) →
-    (n ≡ slot_count c (drop i (map entry_of os))) × (f ≡ first_from (i + 1) c (drop i (map entry_of os))) →
-    (n ≡ slot_count c (drop j (map entry_of os))) × (f ≡ first_from (j + 1) c (drop j (map entry_of os)))
-share_no c os d n f i j e within other h =
-    let t : eqb (entry_of (get_or os j d)) c ≡ false = ne_eqb _ c other in
-    let split = entries_from os d i j e within in
-    let rest = drop i (map entry_of os) in
-    let count = count_no c (entry_of (get_or os j d)) rest t in
-    let first = first_no (j + 1) c (entry_of (get_or os j d)) rest t in
-    rw split (h.0 ∙ sym count, h.1 ∙ (ap (λ s. first_from (s + 1) c rest) (sym e) ∙ sym first))
-
--- the entries from place 0 on are all entries
-pub share_all :
-    (c : ℕ) (es : List ℕ) (n f i : ℕ) → i ≤ 0 →
-    (n ≡ slot_count c (drop i es)) × (f ≡ first_from (i + 1) c (drop i es)) →
-    (n ≡ slot_count c es) × (f ≡ first_slot c es) × ShareLaw c es n f
-share_all c es n f zero low h =
-    (h.0, h.1, rw (h.0, h.1) (share_law c es))
-share_all c es n f (suc i) low h = absurd (omega arith)
+-- the first slot is one more than the place of the first entry
+pub is_first : (s c : ℕ) (os : List (Option ℕ)) → first_from s c (map entry_of os) ≡ option_map_or (λ i. s + i) (position (λ o. entry_of o == c) os) 0
+is_first s c [] = refl
+is_first s c (o ∷ os) =
+    elim (cases_Bool (entry_of o == c)) [
+      | inl t ↦ grind (arith, nat_tests, first_yes s c (entry_of o) (map entry_of os) t)
+      | inr f ↦ grind (arith, nat_tests, first_no s c (entry_of o) (map entry_of os) f, is_first (s + 1) c os)
+    ]

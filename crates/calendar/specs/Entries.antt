@@ -1,12 +1,7 @@
 -- A calendar as a list of 480 numbers: for each slot its client's number, 0 for an empty slot.
-use Rattle.std.specs.Prelude.{◌≡◌, ℕ, ◌≤◌, List, map, length, Some, None, Option, slice_index}
-use Rattle.numbers.specs.declared.ClientNumber.{ClientNumber}
+use Rattle.std.specs.Prelude.{◌≡◌, ℕ, ◌≤◌, List, map, length, slice_index}
+use Rattle.numbers.specs.Entries.{entry_of}
 use Rattle.calendar.specs.declared.Calendar.{Calendar}
-
--- the number of a slot's client
-abbrev pub entry_of : Option ClientNumber → ℕ
-entry_of (Some c) = c.number
-entry_of None = 0
 
 -- the entries by rising slot
 abbrev pub entries_of : Calendar → List ℕ

@@ -1,20 +1,105 @@
-// A calendar: for each of the 480 slots of a frame the client that it is leased to, or none.
-// A slot is named by a SlotNumber and holds a ClientNumber, so no slot and no entry is out of range.
-// Main promise: `assign` changes one entry and no other; `share` counts a client's slots and finds its lowest one.
+//! A calendar: for each of the 480 slots of a frame the client that it is leased to, or none.
+//! A slot is named by a SlotNumber and holds a ClientNumber, so no slot and no entry is out of range.
+//! Main promise: `assign` changes one entry and no other; `share` counts a client's slots and finds its lowest one.
 #![tactic(auto)]
 
-ghost use Rattle.std.specs.Prelude.{◌≡◌, length};
+ghost use Rattle.std.specs.Prelude.{◌≡◌, ◌-◌, ◌<◌, ◌==◌, IfSome, count_by, length, position, replicate, slice_index, slice_set, true};
+ghost use Rattle.std.specs.List.{AllPass};
+ghost use Rattle.calendar.specs.Share.{ShareLaw, first_slot, slot_count};
+ghost use Rattle.numbers.specs.Entries.{entry_of, is_entry};
 
-mod methods;
+use numbers::{ClientNumber, SlotNumber};
 
-pub use methods::entries_in_range;
-use numbers::ClientNumber;
-
+/// Which client has which slot. Its facts stand in ghost fields and not in a model, so that a caller's proof has them with no call.
 #[derive(Clone, Copy)]
 pub struct Calendar {
     // by rising slot
     entries: [Option<ClientNumber>; 480],
     ghost full: { length entries ≡ 480 },
+    ghost in_range: { AllPass is_entry entries },
+}
+
+impl Calendar {
+    ghost use Rattle.calendar.specs.Entries.{EntriesInRange, entries_of};
+
+    /// The calendar with every slot empty.
+    pub fn empty() -> Calendar
+        ensures { entries_of result ≡ replicate 480 0 }
+    {
+        Calendar {
+            entries: [None; 480],
+        }
+    }
+
+    /// The client of a slot.
+    pub fn client(&self, slot: SlotNumber) -> Option<ClientNumber>
+        ensures value { entry_of result ≡ slice_index (entries_of self.now) (slot - 1) }
+        ensures range { is_entry result ≡ true }
+    {
+        self.entries[slot.index()]
+    }
+
+    /// Leases a slot to a client.
+    pub fn assign(&mut self, slot: SlotNumber, client: ClientNumber)
+        ensures { entries_of self.new ≡ slice_set (entries_of self.old) (slot - 1) client }
+    {
+        let i = slot.index();
+        // says of the client what its type keeps, that it is in range
+        let _ = client.number();
+        self.entries[i] = Some(client);
+    }
+
+    /// A client's slot count and its first, the lowest, slot; 0 and 0 if it has none.
+    pub fn share(&self, client: ClientNumber) -> (u16, u16)
+        ensures count { result.0 ≡ slot_count client (entries_of self.now) }
+        ensures first { result.1 ≡ first_slot client (entries_of self.now) }
+        ensures law { ShareLaw client (entries_of self.now) result.0 result.1 }
+    {
+        (self.slot_count(client), self.first_slot(client))
+    }
+
+    #[tactic(auto, using(crate::proofs::Shares::is_count))]
+    fn slot_count(&self, client: ClientNumber) -> u16
+        ensures { result ≡ slot_count client (entries_of self.now) }
+    {
+        self.entry_count(client) as u16
+    }
+
+    // 0 if the client has no slot
+    #[tactic(auto, using(crate::proofs::Shares::is_first))]
+    fn first_slot(&self, client: ClientNumber) -> u16
+        ensures { result ≡ first_slot client (entries_of self.now) }
+    {
+        match self.first_index(client) {
+            Some(index) => index as u16 + 1,
+            None => 0,
+        }
+    }
+
+    fn entry_count(&self, client: ClientNumber) -> usize
+        ensures { result ≡ count_by (λ e. entry_of e == client) self.now.entries }
+    {
+        let number = client.number();
+        self.entries
+            .iter()
+            .filter(|entry| ClientNumber::entry(**entry) == number)
+            .count()
+    }
+
+    fn first_index(&self, client: ClientNumber) -> Option<usize>
+        ensures value { result ≡ position (λ e. entry_of e == client) self.now.entries }
+        ensures within { IfSome result (λ i. i < 480) }
+    {
+        let number = client.number();
+        self.entries
+            .iter()
+            .position(|entry| ClientNumber::entry(*entry) == number)
+    }
+
+    /// Every calendar has 480 entries, each a client number or 0.
+    pub fn entries_in_range()
+        ensures { EntriesInRange }
+    {}
 }
 
 #[cfg(test)]
@@ -32,9 +117,9 @@ mod tests {
     ) -> Result<(), Fail> {
         let mut calendar = Calendar::empty();
         for lease in leases {
-            let client = ClientNumber::new(lease.0)?;
+            let client = ClientNumber::try_from(lease.0)?;
             for number in 1..=480u16 {
-                let slot = SlotNumber::new(number)?;
+                let slot = SlotNumber::try_from(number)?;
                 if lease.1 <= number && number <= lease.2 {
                     calendar.assign(slot, client);
                     assert_eq!(rt; calendar.client(slot), Some(client));
@@ -42,7 +127,7 @@ mod tests {
             }
         }
         for share in shares {
-            let client = ClientNumber::new(share.0)?;
+            let client = ClientNumber::try_from(share.0)?;
             assert_eq!(rt; calendar.share(client), (share.1, share.2));
         }
         Ok(())

@@ -1,5 +1,5 @@
 -- Which numbers are client and slot numbers, and which are frame numbers.
-use Rattle.std.specs.Prelude.{ℕ, Bool, false, cond, Some, None, Ok, Err, Option, Result, nat_le}
+use Rattle.std.specs.Prelude.{ℕ, ◌≤◌, Bool, false, if◌then◌else◌, Ok, Err, Result, nat_le}
 use Rattle.refusal.specs.declared.Refusal.{Refusal}
 use Rattle.refusal.specs.declared.Refusal.TheVariants.{OutOfRange}
 
@@ -7,23 +7,17 @@ use Rattle.refusal.specs.declared.Refusal.TheVariants.{OutOfRange}
 abbrev pub slots : ℕ
 slots = 480
 
+-- what every client or slot number is
+abbrev pub IsOneTo480 : ℕ → Type 0
+IsOneTo480 n = (1 ≤ n) × (n ≤ slots)
+
 abbrev pub in_range : ℕ → Bool
-in_range n = cond (nat_le 1 n) (nat_le n slots) false
+in_range n = if nat_le 1 n then nat_le n slots else false
 
--- what a constructor of a client or slot number answers
+-- what the conversion to a client or slot number answers
 abbrev pub checked : ℕ → Result ℕ Refusal
-checked n = cond (in_range n) (Ok n) (Err OutOfRange)
+checked n = if in_range n then Ok n else Err OutOfRange
 
--- what the constructor of a frame number answers: frames are numbered from 0
-abbrev pub checked_frame : ℕ → Option ℕ
-checked_frame n = cond (nat_le slots n) None (Some n)
-
--- a result by a number that stands for its value
-abbrev pub ok_by : {A E : Type 0} → (A → ℕ) → Result A E → Result ℕ E
-ok_by f (Ok x) = Ok (f x)
-ok_by f (Err e) = Err e
-
--- an option likewise
-abbrev pub some_by : {A : Type 0} → (A → ℕ) → Option A → Option ℕ
-some_by f (Some x) = Some (f x)
-some_by f None = None
+-- what the conversion to a frame number answers: frames are numbered from 0
+abbrev pub checked_frame : ℕ → Result ℕ Refusal
+checked_frame n = if nat_le slots n then Err OutOfRange else Ok n

@@ -1,73 +1,155 @@
-// Client numbers, slot numbers and frame numbers, each a type of its own, so that none is taken for another.
-// A client or slot number runs from 1 to 480, a frame number from 0 to 479; only a checked constructor makes one.
-// Main promise: `new` answers exactly the numbers in range, and refuses all others.
+//! Client numbers, slot numbers and frame numbers, each a type of its own, so that none is taken for another.
+//! In contracts each is its number. A client or slot number runs from 1 to 480, a frame number from 0 to 479.
+//! Main promise: `try_from` answers exactly the numbers in range, and refuses all others.
 #![tactic(auto)]
 
-ghost use Rattle.std.specs.Prelude.{◌≡◌, ◌+◌, ◌<◌, ◌≤◌};
-ghost use Rattle.numbers.specs.Range.{checked, checked_frame, ok_by, some_by};
+ghost use Rattle.std.specs.Prelude.{◌≡◌, ◌+◌, ◌<◌, ◌≤◌, true};
+ghost use Rattle.numbers.specs.Entries.{checked_entry, entry_of, is_entry};
+ghost use Rattle.numbers.specs.Range.{IsOneTo480, checked, checked_frame};
 
 use refusal::Refusal;
+use std::marker::Model;
 
+// Two structs with one shape, since neither may stand for the other; a number generic over a marker would read no plainer.
+/// A client's number, 1 to 480.
 #[derive(Clone, Copy, Debug, PartialEq, Eq)]
 pub struct ClientNumber {
     number: u16,
-    ghost low: { 1 ≤ number },
-    ghost high: { number ≤ 480 },
 }
 
+/// A slot's number, 1 to 480.
 #[derive(Clone, Copy, Debug, PartialEq, Eq)]
 pub struct SlotNumber {
     number: u16,
-    ghost low: { 1 ≤ number },
-    ghost high: { number ≤ 480 },
 }
 
+/// A frame's number in its multiframe, 0 to 479.
 #[derive(Clone, Copy, Debug, PartialEq, Eq)]
 pub struct FrameNumber {
     number: u16,
-    ghost high: { number < 480 },
 }
 
-impl ClientNumber {
-    pub fn new(number: u16) -> Result<ClientNumber, Refusal>
-        ensures { ok_by (λ c. c.number) result ≡ checked number }
-    {
+impl Model for ClientNumber {
+    ghost use Rattle.std.specs.Prelude.{ℕ};
+    ghost use Rattle.numbers.specs.Range.{IsOneTo480};
+
+    ghost Value = { ℕ };
+
+    ghost view = { λ c. c.number };
+
+    ghost invariant = { λ c. IsOneTo480 c.number };
+
+    ghost inverse = { λ n. record { number = n } };
+}
+
+impl Model for SlotNumber {
+    ghost use Rattle.std.specs.Prelude.{ℕ};
+    ghost use Rattle.numbers.specs.Range.{IsOneTo480};
+
+    ghost Value = { ℕ };
+
+    ghost view = { λ s. s.number };
+
+    ghost invariant = { λ s. IsOneTo480 s.number };
+
+    ghost inverse = { λ n. record { number = n } };
+}
+
+impl Model for FrameNumber {
+    ghost use Rattle.std.specs.Prelude.{ℕ, ◌<◌};
+
+    ghost Value = { ℕ };
+
+    ghost view = { λ f. f.number };
+
+    ghost invariant = { λ f. f.number < 480 };
+
+    ghost inverse = { λ n. record { number = n } };
+}
+
+impl TryFrom<u16> for ClientNumber {
+    type Error = Refusal;
+
+    ghost try_from_gives = { λ n r. r ≡ checked n };
+
+    /// Refuses with `OutOfRange` what is no client number.
+    fn try_from(number: u16) -> Result<ClientNumber, Refusal> {
         match number {
             1..=480 => Ok(ClientNumber { number }),
             _ => Err(Refusal::OutOfRange),
         }
     }
-
-    pub fn number(self) -> u16
-        ensures value { result ≡ self.number }
-        ensures low { 1 ≤ result }
-        ensures high { result ≤ 480 }
-    {
-        self.number
-    }
 }
 
-impl SlotNumber {
-    pub fn new(number: u16) -> Result<SlotNumber, Refusal>
-        ensures { ok_by (λ s. s.number) result ≡ checked number }
-    {
+impl TryFrom<u16> for SlotNumber {
+    type Error = Refusal;
+
+    ghost try_from_gives = { λ n r. r ≡ checked n };
+
+    /// Refuses with `OutOfRange` what is no slot number.
+    fn try_from(number: u16) -> Result<SlotNumber, Refusal> {
         match number {
             1..=480 => Ok(SlotNumber { number }),
             _ => Err(Refusal::OutOfRange),
         }
     }
+}
 
+impl TryFrom<u16> for FrameNumber {
+    type Error = Refusal;
+
+    ghost try_from_gives = { λ n r. r ≡ checked_frame n };
+
+    /// Refuses with `OutOfRange` what is no frame number.
+    fn try_from(number: u16) -> Result<FrameNumber, Refusal> {
+        match number {
+            0..=479 => Ok(FrameNumber { number }),
+            _ => Err(Refusal::OutOfRange),
+        }
+    }
+}
+
+impl ClientNumber {
     pub fn number(self) -> u16
-        ensures value { result ≡ self.number }
-        ensures low { 1 ≤ result }
-        ensures high { result ≤ 480 }
+        ensures value { result ≡ self }
+        ensures range { IsOneTo480 self }
     {
         self.number
     }
 
-    // The slot's place in a calendar, from 0.
+    /// An entry of a calendar or an overhead as a number: the client's, 0 for none.
+    pub fn entry(client: Option<ClientNumber>) -> u16
+        ensures value { result ≡ entry_of client }
+        ensures range { is_entry client ≡ true }
+    {
+        match client {
+            Some(client) => client.number(),
+            None => 0,
+        }
+    }
+
+    /// The client that such a number names, if any; a number above 480 is refused with `OutOfRange`.
+    pub fn from_entry(entry: u16) -> Result<Option<ClientNumber>, Refusal>
+        ensures { result ≡ checked_entry entry }
+    {
+        match entry {
+            0 => Ok(None),
+            number => ClientNumber::try_from(number).map(Some),
+        }
+    }
+}
+
+impl SlotNumber {
+    pub fn number(self) -> u16
+        ensures value { result ≡ self }
+        ensures range { IsOneTo480 self }
+    {
+        self.number
+    }
+
+    /// The slot's place in a calendar, from 0.
     pub fn index(self) -> usize
-        ensures value { result + 1 ≡ self.number }
+        ensures value { result + 1 ≡ self }
         ensures high { result < 480 }
     {
         self.number as usize - 1
@@ -75,25 +157,16 @@ impl SlotNumber {
 }
 
 impl FrameNumber {
-    pub fn new(number: u16) -> Option<FrameNumber>
-        ensures { some_by (λ f. f.number) result ≡ checked_frame number }
-    {
-        match number {
-            0..=479 => Some(FrameNumber { number }),
-            _ => None,
-        }
-    }
-
     pub fn number(self) -> u16
-        ensures value { result ≡ self.number }
-        ensures high { result < 480 }
+        ensures value { result ≡ self }
+        ensures range { self < 480 }
     {
         self.number
     }
 
-    // The slot whose client a frame of this number announces.
+    /// The slot whose client a frame of this number announces.
     pub fn slot(self) -> SlotNumber
-        ensures { result.number ≡ self.number + 1 }
+        ensures { result ≡ self + 1 }
     {
         SlotNumber {
             number: self.number + 1,
