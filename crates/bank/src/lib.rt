@@ -3,7 +3,7 @@
 // Main promise: the bank is an inlet and an outlet, and the list it holds for a client is the list that waits for it.
 #![tactic(auto)]
 
-ghost use Rattle.std.specs.Prelude.{◌≡◌, length, MatchOption};
+ghost use Rattle.std.specs.Prelude.{◌≡◌, ◌≤◌, length, MatchOption};
 ghost use Rattle.port.specs.Model.{Put, empty_with, first_of, taken};
 ghost use Rattle.bank.specs.Ring.{place_at};
 ghost use Rattle.bank.specs.Lists.{area_count, width_of, AreaAt, ring_of, bank_areas, bank_lists, bank_holding, after_next, after_put};
@@ -72,7 +72,7 @@ impl<'a> Bank<'a> {
 
     // Where the client's area begins, or none where it has none.
     fn area(&self, client: ClientNumber) -> Option<usize>
-        ensures { MatchOption result (width_of self.now.width (length self.now.memory.now) client.number ≡ 0) (λ start. AreaAt self.now.width (length self.now.memory.now) client.number start) }
+        ensures { MatchOption result (width_of self.now.width (length self.now.memory.now) client ≡ 0) (λ start. AreaAt self.now.width (length self.now.memory.now) client start) }
     {
         let places = self.memory.len();
         let end = client.number() as u128 * self.width as u128;
@@ -85,7 +85,8 @@ impl<'a> Bank<'a> {
 
     // The client's ring.
     fn ring(&self, client: ClientNumber) -> Ring
-        ensures { result ≡ ring_of self.now.rings client.number }
+        ensures value { result ≡ ring_of self.now.rings client }
+        ensures range { 1 ≤ client }
     {
         self.rings[client.number() as usize - 1]
     }
@@ -95,9 +96,9 @@ impl<'a> Inlet for Bank<'a> {
     ghost waiting = { bank_lists };
 
     fn next(&mut self, client: ClientNumber) -> Option<Block>
-        ensures first { result ≡ first_of (bank_lists self.old client.number) }
-        ensures rest { bank_lists self.new ≡ taken client.number (bank_lists self.old) }
-        ensures holding { bank_holding self.new ≡ after_next client.number (bank_holding self.old) }
+        ensures first { result ≡ first_of (bank_lists self.old client) }
+        ensures rest { bank_lists self.new ≡ taken client (bank_lists self.old) }
+        ensures holding { bank_holding self.new ≡ after_next client (bank_holding self.old) }
         ensures areas { bank_areas self.new ≡ bank_areas self.old }
         ensures lender { self.new.memory.ghost_name ≡ self.old.memory.ghost_name }
     {
@@ -127,8 +128,8 @@ impl<'a> Outlet for Bank<'a> {
     }
 
     fn put(&mut self, client: ClientNumber, a: Block, b: Block) -> Result<(), Refusal>
-        ensures put { Put client.number a b result (bank_holding self.old) (bank_holding self.new) }
-        ensures holding { bank_holding self.new ≡ after_put result client.number a b (bank_holding self.old) }
+        ensures put { Put client a b result (bank_holding self.old) (bank_holding self.new) }
+        ensures holding { bank_holding self.new ≡ after_put result client a b (bank_holding self.old) }
         ensures areas { bank_areas self.new ≡ bank_areas self.old }
         ensures lender { self.new.memory.ghost_name ≡ self.old.memory.ghost_name }
     {

@@ -1,14 +1,20 @@
 -- The places of a frame's blocks: 1 the start block, 2 to 991 data blocks 1 to 990, 992 the end block.
-use Rattle.std.specs.Prelude.{ℕ, ◌+◌, false, cond, Some, None, Option, ◌==◌, nat_le}
+use Rattle.std.specs.Prelude.{ℕ, ◌+◌, ◌≤◌, false, if◌then◌else◌, Some, None, Ok, Err, Option, Result, ◌==◌, nat_le}
+use Rattle.refusal.specs.declared.Refusal.{Refusal}
+use Rattle.refusal.specs.declared.Refusal.TheVariants.{OutOfRange}
 
 -- blocks of a frame
 abbrev pub frame_blocks : ℕ
 frame_blocks = 992
 
--- what the constructor of a place answers
-abbrev pub checked_place : ℕ → Option ℕ
-checked_place n = cond (cond (nat_le 1 n) (nat_le n frame_blocks) false) (Some n) None
+-- what every place is
+abbrev pub IsPlace : ℕ → Type 0
+IsPlace n = (1 ≤ n) × (n ≤ frame_blocks)
+
+-- what the conversion to a place answers
+abbrev pub checked_place : ℕ → Result ℕ Refusal
+checked_place n = if (if nat_le 1 n then nat_le n frame_blocks else false) then Ok n else Err OutOfRange
 
 -- the place after this one, none after the last
 abbrev pub next_place : ℕ → Option ℕ
-next_place n = cond (n == frame_blocks) None (Some (n + 1))
+next_place n = if n == frame_blocks then None else Some (n + 1)

@@ -20,7 +20,7 @@ pub type OverheadBytes = [u8; 7];
 
 // The block at a place of the frame with this overhead and payload.
 pub fn block_at(overhead: &OverheadBytes, payload: &Payload, place: FramePlace) -> Block
-    ensures { result ≡ frame_block (overhead.now ++ payload.now) place.number }
+    ensures { result ≡ frame_block (overhead.now ++ payload.now) place }
 {
     match place.number() {
         1 => Block::start(),
@@ -39,7 +39,7 @@ pub struct SlotStart {
 }
 
 pub fn slot_start(slot: SlotNumber) -> SlotStart
-    ensures made { result ≡ slot_start slot.number }
+    ensures made { result ≡ slot_start slot }
     ensures values { SlotStarts }
     ensures there { SlotsBeginThere }
 {
@@ -113,7 +113,7 @@ pub fn store_block(
     overhead: &mut OverheadBytes,
     payload: &mut Payload,
 )
-    ensures kept { overhead.new ++ payload.new ≡ stored place.number block.now.bytes (overhead.old ++ payload.old) }
+    ensures kept { overhead.new ++ payload.new ≡ stored place block.now.bytes (overhead.old ++ payload.old) }
     ensures eight { length block.now.bytes ≡ 8 }
     ensures restored { FrameRestored }
 {
@@ -186,7 +186,7 @@ mod tests {
             ),
         ];
         for (number, sync, bytes) in table {
-            let place = FramePlace::new(number).ok_or(number)?;
+            let place = FramePlace::try_from(number)?;
             assert_eq!(rt; block_at(&overhead, &payload, place), Block { sync, bytes });
         }
         Ok(())
@@ -196,11 +196,11 @@ mod tests {
     fn starts(rt: HostRuntime) -> Result<(), Fail> {
         for (slot, block, byte, bit) in [(1, 1, 7, 0), (2, 3, 7, 4), (480, 989, 6, 4)] {
             assert_eq!(rt;
-                slot_start(SlotNumber::new(slot)?),
+                slot_start(SlotNumber::try_from(slot)?),
                 SlotStart { block, byte, bit }
             );
         }
-        assert!(rt; FramePlace::new(0).is_none() && FramePlace::new(993).is_none());
+        assert!(rt; FramePlace::try_from(0).is_err() && FramePlace::try_from(993).is_err());
         Ok(())
     }
 }

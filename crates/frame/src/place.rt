@@ -1,34 +1,53 @@
-// The place of a block in its frame, from 1, the start block, to 992, the end block.
+//! The place of a block in its frame, from 1, the start block, to 992, the end block. In contracts it is its number.
 ghost use Rattle.std.specs.Prelude.{◌≡◌, ◌+◌, ◌<◌, ◌≤◌};
-ghost use Rattle.frame.specs.Places.{checked_place, next_place};
-ghost use Rattle.numbers.specs.Range.{some_by};
+ghost use Rattle.frame.specs.Places.{IsPlace, checked_place, next_place};
+
+use refusal::Refusal;
+use std::marker::Model;
 
 #[derive(Clone, Copy)]
 pub struct FramePlace {
     number: u16,
-    ghost low: { 1 ≤ number },
-    ghost high: { number ≤ 992 },
+}
+
+impl Model for FramePlace {
+    ghost use Rattle.std.specs.Prelude.{ℕ};
+    ghost use Rattle.frame.specs.Places.{IsPlace};
+
+    ghost Value = { ℕ };
+
+    ghost view = { λ p. p.number };
+
+    ghost invariant = { λ p. IsPlace p.number };
+
+    ghost inverse = { λ n. record { number = n } };
+}
+
+impl TryFrom<u16> for FramePlace {
+    type Error = Refusal;
+
+    ghost try_from_gives = { λ n r. r ≡ checked_place n };
+
+    /// Refuses with `OutOfRange` what is no place.
+    fn try_from(number: u16) -> Result<FramePlace, Refusal> {
+        match number {
+            1..=992 => Ok(FramePlace { number }),
+            _ => Err(Refusal::OutOfRange),
+        }
+    }
 }
 
 impl FramePlace {
-    pub fn new(number: u16) -> Option<FramePlace>
-        ensures { some_by (λ p. p.number) result ≡ checked_place number }
-    {
-        match number {
-            1..=992 => Some(FramePlace { number }),
-            _ => None,
-        }
-    }
-
-    // The place of the start block.
+    /// The place of the start block.
     pub fn first() -> FramePlace
-        ensures { result.number ≡ 1 }
+        ensures { result ≡ 1 }
     {
         FramePlace { number: 1 }
     }
 
+    /// The place behind this one, none behind the end block's.
     pub fn next(self) -> Option<FramePlace>
-        ensures { some_by (λ p. p.number) result ≡ next_place self.number }
+        ensures { result ≡ next_place self }
     {
         match self.number {
             992 => None,
@@ -37,9 +56,8 @@ impl FramePlace {
     }
 
     pub fn number(self) -> u16
-        ensures value { result ≡ self.number }
-        ensures low { 1 ≤ result }
-        ensures high { result ≤ 992 }
+        ensures value { result ≡ self }
+        ensures range { IsPlace self }
     {
         self.number
     }
@@ -47,7 +65,7 @@ impl FramePlace {
     // The place of the block with this index among its frame's.
     pub(crate) fn of_index(index: usize) -> FramePlace
         requires { index < 992 }
-        ensures { result.number ≡ index + 1 }
+        ensures { result ≡ index + 1 }
     {
         FramePlace {
             number: index as u16 + 1,

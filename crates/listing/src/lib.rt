@@ -68,7 +68,7 @@ pub fn listing(calendar: &Calendar, out: &mut [u8; LISTING_LEN]) -> usize
 {
     let mut at = 0;
     for number in 1..=480u16 {
-        let Ok(client) = ClientNumber::new(number) else {
+        let Ok(client) = ClientNumber::try_from(number) else {
             unreachable()
         };
         let (count, first) = calendar.share(client);
@@ -115,10 +115,10 @@ mod tests {
     fn listed(rt: &impl Abort, leases: &[(u16, u16, u16)], text: &[u8]) -> Result<(), Fail> {
         let mut calendar = Calendar::empty();
         for lease in leases {
-            let client = ClientNumber::new(lease.0)?;
+            let client = ClientNumber::try_from(lease.0)?;
             for slot in 1..=480u16 {
                 if lease.1 <= slot && slot <= lease.2 {
-                    calendar.assign(SlotNumber::new(slot)?, client);
+                    calendar.assign(SlotNumber::try_from(slot)?, client);
                 }
             }
         }

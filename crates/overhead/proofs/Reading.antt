@@ -4,7 +4,7 @@ use Rattle.std.specs.Int.Bits.{bit_and}
 use Rattle.std.proofs.lemmas.Nat.{and_mask}
 use Rattle.std.specs.Int.{reverse_bits_onto}
 use Rattle.std.proofs.lemmas.List.{length-take, length-drop, take-append-drop, take-take, same_lists, places}
-use Rattle.std.proofs.lemmas.Bool.{eq-eqb, ne_eqb, le-ltb, lt-ltb, ltb-true, ltb-false, leb-true, leb-false}
+use Rattle.std.proofs.lemmas.Bool.{eq-eqb, ne_eqb, le-ltb, lt-ltb, ltb-true, ltb-false}
 use Rattle.crc.specs.Bits.{low_first, high_first, bits, field}
 use Rattle.crc.specs.Laws.{value, Detects}
 use Rattle.crc.specs.Remainder.{remainder}
@@ -15,6 +15,8 @@ use Rattle.crc.proofs.Detect.{detects}
 use Rattle.crc.proofs.Generators.{seven}
 use Rattle.overhead.specs.Format.{Fields, fields_in, covered_bits, overhead_bits, remainder_of, read_word, read_bytes}
 use Rattle.numbers.specs.Range.{checked_frame}
+use Rattle.refusal.specs.declared.Refusal.{Refusal}
+use Rattle.std.proofs.lemmas.Bool.Decides.{nat_tests}
 use Rattle.overhead.specs.Entry.{read_entry}
 use Rattle.overhead.specs.Laws.{ChangesSeen}
 use Rattle.overhead.proofs.Words.{word_of, numbers_in, word_read}
@@ -193,16 +195,8 @@ entry_ok n m h = go (ltb 480 n) refl h
     go true q p = let z : ◌≡◌ {A = ℕ} 0 1 = cc in absurd (omega arith)
     go false q p = (ltb-false 480 n q, cc)
 
-pub frame_some : (n m : ℕ) → ◌≡◌ {A = Option ℕ} (Some m) (checked_frame n) → (n ≤ 479) × (m ≡ n)
-frame_some n m h = go (leb 480 n) refl h
-  where
-    go : (b : Bool) → leb 480 n ≡ b → ◌≡◌ {A = Option ℕ} (Some m) (cond b None (Some n)) → (n ≤ 479) × (m ≡ n)
-    go true q p = let z : ◌≡◌ {A = ℕ} 0 1 = cc in absurd (omega arith)
-    go false q p = (let l : n < 480 = leb-false 480 n q in omega arith, cc)
+pub frame_some : (n m : ℕ) → Ok m ≡ checked_frame n → (n ≤ 479) × (m ≡ n)
+frame_some n m h = grind (arith, nat_tests)
 
-pub frame_none : (n : ℕ) → ◌≡◌ {A = Option ℕ} None (checked_frame n) → 479 < n
-frame_none n h = go (leb 480 n) refl h
-  where
-    go : (b : Bool) → leb 480 n ≡ b → ◌≡◌ {A = Option ℕ} None (cond b None (Some n)) → 479 < n
-    go true q p = let l : 480 ≤ n = leb-true 480 n q in omega arith
-    go false q p = let z : ◌≡◌ {A = ℕ} 0 1 = cc in absurd (omega arith)
+pub frame_none : (n : ℕ) (e : Refusal) → Err e ≡ checked_frame n → 479 < n
+frame_none n e h = grind (arith, nat_tests)

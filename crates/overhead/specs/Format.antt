@@ -6,7 +6,7 @@ use Rattle.std.specs.Prelude.{ℕ, Bool, false, cond, not, List, ◌++◌, take,
 use Rattle.crc.specs.Bits.{high_first, packed, field}
 use Rattle.crc.specs.Remainder.{remainder}
 use Rattle.crc.specs.Laws.{value}
-use Rattle.numbers.specs.declared.ClientNumber.{ClientNumber}
+use Rattle.numbers.specs.Entries.{entry_of}
 use Rattle.overhead.specs.declared.Overhead.{Overhead}
 use Rattle.overhead.specs.declared.OverheadFault.{OverheadFault}
 use Rattle.overhead.specs.declared.OverheadFault.TheVariants.{WrongRemainder, ClientTooHigh, FrameTooHigh}
@@ -16,13 +16,8 @@ pub record Fields : Type 0 where
   pub entry : ℕ
   pub frame : ℕ
 
--- an entry of a calendar as a number
-abbrev pub entry_of : Option ClientNumber → ℕ
-entry_of (Some c) = c.number
-entry_of None = 0
-
 abbrev pub fields_of : Overhead → Fields
-fields_of o = record { entry = entry_of o.announced; frame = o.frame.number }
+fields_of o = record { entry = entry_of o.announced; frame = o.frame }
 
 -- the remainder by x^7 + x^5 + x^4 + x^2 + x + 1
 abbrev pub remainder_of : List Bool → ℕ

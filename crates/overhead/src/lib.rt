@@ -59,9 +59,9 @@ impl Overhead {
         }
         let numbers = u32::from_le_bytes([b0, b1, b2, b3]).reverse_bits() >> 3;
         let announced = announced_client(((numbers >> 9) & 0x3FF) as u16)?;
-        match FrameNumber::new((numbers & 0x1FF) as u16) {
-            Some(frame) => Ok(Overhead { announced, frame }),
-            None => Err(OverheadFault::FrameTooHigh),
+        match FrameNumber::try_from((numbers & 0x1FF) as u16) {
+            Ok(frame) => Ok(Overhead { announced, frame }),
+            Err(_) => Err(OverheadFault::FrameTooHigh),
         }
     }
 }
@@ -73,7 +73,7 @@ fn announced_client(entry: u16) -> Result<Option<ClientNumber>, OverheadFault>
     if entry == 0 {
         return Ok(None);
     }
-    match ClientNumber::new(entry) {
+    match ClientNumber::try_from(entry) {
         Ok(client) => Ok(Some(client)),
         Err(_) => Err(OverheadFault::ClientTooHigh),
     }

@@ -48,7 +48,7 @@ impl<'a> PacketInlet<'a> {
         lengths: &'a [u16],
         bytes: &'a [u8],
     ) -> Result<PacketInlet<'a>, Refusal>
-        ensures answer { meaning result ≡ new_answer client.number lengths.now bytes.now }
+        ensures answer { meaning result ≡ new_answer client lengths.now bytes.now }
         ensures whole { CutWhole lengths.now bytes.now }
     {
         if !are_lengths(lengths, bytes.len()) {
@@ -117,8 +117,8 @@ mod tests {
     #[test]
     fn two_packets(rt: HostRuntime) -> Result<(), Fail> {
         let bytes = counting();
-        let own = ClientNumber::new(7)?;
-        let other = ClientNumber::new(8)?;
+        let own = ClientNumber::try_from(7)?;
+        let other = ClientNumber::try_from(8)?;
         let mut inlet = PacketInlet::new(own, &[64, 71], &bytes)?;
         let table = [
             (0x78, 0x55),
@@ -154,7 +154,7 @@ mod tests {
     }
 
     fn refusal_of<'a>(lengths: &'a [u16], bytes: &'a [u8]) -> Result<Option<Refusal>, Fail> {
-        let client = ClientNumber::new(7)?;
+        let client = ClientNumber::try_from(7)?;
         Ok(PacketInlet::new(client, lengths, bytes).err())
     }
 

@@ -101,8 +101,8 @@ pub fn carried_line(
     back: &[u8],
     out: &mut [u8],
 ) -> Result<usize, Refusal>
-    ensures answer { result ≡ print_answer (carried_text client.number bytes blocks back.now) (length back.now) (length out.old) }
-    ensures output { out.new ≡ leaves result (carried_text client.number bytes blocks back.now) out.old }
+    ensures answer { result ≡ print_answer (carried_text client bytes blocks back.now) (length back.now) (length out.old) }
+    ensures output { out.new ≡ leaves result (carried_text client bytes blocks back.now) out.old }
 {
     if !has_room(back.len(), out.len()) {
         return Err(Refusal::OutputTooShort);

@@ -74,7 +74,7 @@ fn fill<R: Read>(input: &mut R, buf: &mut [u8]) -> io::Result<usize>
 fn store_line<O: Outlet>(line: &[u8], outlet: &mut O) -> Result<usize, Refusal> {
     let mut bytes = [0; BYTES];
     let read = packet_text::read_line(line, &mut bytes)?;
-    let client = ClientNumber::new(read.client)?;
+    let client = ClientNumber::try_from(read.client)?;
     let packet = bytes.get(0..read.length).ok_or(Refusal::OutputTooShort)?;
     transfer::put_packet(outlet, client, packet)
 }
@@ -89,7 +89,7 @@ fn carry_line<I: Inlet>(
     let count = stored?;
     let mut bytes = [0; BYTES];
     let read = packet_text::read_line(line, &mut bytes)?;
-    let client = ClientNumber::new(read.client)?;
+    let client = ClientNumber::try_from(read.client)?;
     let mut blocks = [Block::idle(); BLOCKS];
     let places = count.min(BLOCKS - 1);
     let mut back = [0; 2000];

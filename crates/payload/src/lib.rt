@@ -192,7 +192,7 @@ fn write_at(payload: &mut Payload, place: Place, pair: Pair)
 
 // The bit of the payload at which a slot begins.
 pub fn slot_bit(slot: SlotNumber) -> usize
-    ensures { result ≡ slot_bit slot.number }
+    ensures { result ≡ slot_bit slot }
 {
     match Place::of_slot(slot.index()) {
         Place::Low(at) => 8 * at,
@@ -202,16 +202,16 @@ pub fn slot_bit(slot: SlotNumber) -> usize
 
 // The pair in a slot.
 pub fn read_pair(payload: &Payload, slot: SlotNumber) -> Pair
-    ensures made { result ≡ pair_at slot.number payload.now }
-    ensures sent { pair_bits result ≡ slot_bits slot.number payload.now }
+    ensures made { result ≡ pair_at slot payload.now }
+    ensures sent { pair_bits result ≡ slot_bits slot payload.now }
 {
     read_at(payload, Place::of_slot(slot.index()))
 }
 
 // Writes the pair into a slot, and changes no other bit.
 pub fn write_pair(payload: &mut Payload, slot: SlotNumber, pair: Pair)
-    ensures sent { bits payload.new ≡ splice (slot_bit slot.number) (pair_bits pair) (bits payload.old) }
-    ensures made { pairs_of payload.new ≡ slice_set (pairs_of payload.old) (slot.number - 1) pair }
+    ensures sent { bits payload.new ≡ splice (slot_bit slot) (pair_bits pair) (bits payload.old) }
+    ensures made { pairs_of payload.new ≡ slice_set (pairs_of payload.old) (slot - 1) pair }
 {
     write_at(payload, Place::of_slot(slot.index()), pair);
 }
@@ -284,10 +284,10 @@ mod tests {
             },
         };
         let mut payload = [0u8; 7920];
-        write_pair(&mut payload, SlotNumber::new(1)?, one);
+        write_pair(&mut payload, SlotNumber::try_from(1)?, one);
         assert_eq!(rt; payload[16], 0x08);
-        write_pair(&mut payload, SlotNumber::new(2)?, two);
-        write_pair(&mut payload, SlotNumber::new(480)?, two);
+        write_pair(&mut payload, SlotNumber::try_from(2)?, two);
+        write_pair(&mut payload, SlotNumber::try_from(480)?, two);
         let table = [
             (0, 0xFE),
             (1, 0x03),
@@ -307,7 +307,7 @@ mod tests {
             assert!(rt; at < 7920);
             assert_eq!(rt; payload[at], byte);
         }
-        let read = read_pair(&payload, SlotNumber::new(1)?);
+        let read = read_pair(&payload, SlotNumber::try_from(1)?);
         assert!(rt; read.first == one.first && read.second == one.second);
         Ok(())
     }

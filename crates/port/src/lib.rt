@@ -18,8 +18,8 @@ pub trait Inlet {
 
     // The client's first block, which is removed, or none where no block waits.
     fn next(&mut self, client: ClientNumber) -> Option<Block>
-        ensures first { result ≡ first_of (waiting self.old client.number) }
-        ensures rest { waiting self.new ≡ taken client.number (waiting self.old) };
+        ensures first { result ≡ first_of (waiting self.old client) }
+        ensures rest { waiting self.new ≡ taken client (waiting self.old) };
 }
 
 // Where a client's blocks are put, two at a time.
@@ -29,25 +29,25 @@ pub trait Outlet {
 
     // The client's free places.
     fn free(&self, client: ClientNumber) -> usize
-        ensures { result ≡ (holding self.now).free client.number };
+        ensures { result ≡ (holding self.now).free client };
 
     // Appends the pair to the client's list, or refuses it where two places are not free.
     fn put(&mut self, client: ClientNumber, a: Block, b: Block) -> Result<(), Refusal>
-        ensures put { Put client.number a b result (holding self.old) (holding self.new) };
+        ensures put { Put client a b result (holding self.old) (holding self.new) };
 }
 
 // An inlet and an outlet in one: what it holds for a client is what waits for it.
 pub trait Store: Inlet + Outlet {
     // The client's first block, which stays where it is, or none where no block waits.
     fn first(&self, client: ClientNumber) -> Option<Block>
-        ensures first { result ≡ first_of (Self.Inlet.waiting self.now client.number) }
+        ensures first { result ≡ first_of (Self.Inlet.waiting self.now client) }
         ensures one_list { Self.Inlet.waiting self.now ≡ (Self.Outlet.holding self.now).held };
 }
 
 // The client's first two blocks, which are removed.
 pub fn next_pair<I: Inlet>(inlet: &mut I, client: ClientNumber) -> (Option<Block>, Option<Block>)
-    ensures pair { result ≡ first_two (I.waiting inlet.old client.number) }
-    ensures rest { I.waiting inlet.new ≡ taken client.number (taken client.number (I.waiting inlet.old)) }
+    ensures pair { result ≡ first_two (I.waiting inlet.old client) }
+    ensures rest { I.waiting inlet.new ≡ taken client (taken client (I.waiting inlet.old)) }
 {
     let first = inlet.next(client);
     let second = inlet.next(client);
@@ -62,8 +62,8 @@ pub fn move_pair<I: Inlet, O: Outlet>(
     client: ClientNumber,
     filler: Block,
 ) -> Result<(), Refusal>
-    ensures from { I.waiting inlet.new ≡ left_by result client.number (I.waiting inlet.old) }
-    ensures to { Put client.number (or_filler filler (first_of (I.waiting inlet.old client.number))) (or_filler filler (first_of (rest_of (I.waiting inlet.old client.number)))) result (O.holding outlet.old) (O.holding outlet.new) }
+    ensures from { I.waiting inlet.new ≡ left_by result client (I.waiting inlet.old) }
+    ensures to { Put client (or_filler filler (first_of (I.waiting inlet.old client))) (or_filler filler (first_of (rest_of (I.waiting inlet.old client)))) result (O.holding outlet.old) (O.holding outlet.new) }
 {
     if outlet.free(client) < 2 {
         return Err(Refusal::NoFreePlace);

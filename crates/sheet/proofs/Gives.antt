@@ -1,8 +1,7 @@
 -- Slots given to a client one by one.
 use Rattle.std.proofs.Common.{◌≡◌, ℕ, ◌+◌, ◌-◌, ◌<◌, ◌≤◌, Bool, true, false, cond, eqb, List, [], ◌∷◌, ◌++◌, length, get_or, take, drop, set, replicate, is_some, Some, None, Ok, Option, sym, refl, ap, ◌∙◌, add-zero, add_assoc, arith}
 use Rattle.std.proofs.lemmas.List.{append_assoc, take_more, drop_more, length-append, length-replicate, length-take-le, set_at, get_or_at, replicate_more, get_or-drop, length-drop, take-append-drop}
-use Rattle.numbers.specs.declared.ClientNumber.{ClientNumber}
-use Rattle.calendar.specs.Entries.{entry_of}
+use Rattle.numbers.specs.Entries.{entry_of, is_entry}
 use Rattle.std.proofs.lemmas.Bool.{cond-false, ne_eqb}
 use Rattle.std.proofs.lemmas.Bool.Decides.{nat_tests}
 use Rattle.numbers.specs.Range.{checked}
@@ -48,9 +47,9 @@ module _ (c a n : ℕ) (es : List ℕ) (fits : a + n < length es) where
       ∙ ap (λ x. cond (filled (take n (drop a es))) true (cond (eqb x 0) false true)) (get_or-drop a es n 0)
 
 -- an entry is a client's if it is not 0
-pub some_entry : (o : Option ClientNumber) → is_some o ≡ cond (eqb (entry_of o) 0) false true
-some_entry None = refl
-some_entry (Some c) = sym (cond-false (eqb c.number 0) false true (ne_eqb c.number 0 (λ e. let low = c.low in omega arith)))
+pub some_entry : (o : Option ℕ) → is_entry o ≡ true → is_some o ≡ cond (eqb (entry_of o) 0) false true
+some_entry None h = refl
+some_entry (Some c) h = sym (cond-false (eqb c 0) false true (ne_eqb c 0 (λ e. grind (arith, nat_tests))))
 
 -- slot k of the group that begins at slot f, with the slots before it given already
 module _ (c f k : ℕ) (es now : List ℕ) (one : 1 ≤ f) (from : f ≤ k) (top : k ≤ 480) (full : length es ≡ 480) (is : now ≡ gave c (f - 1) (k - f) es) where

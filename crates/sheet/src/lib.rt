@@ -20,12 +20,12 @@ pub const LONGEST: usize = 16384;
 
 // Gives the slots from first to last to a client; whether one of them had a client.
 fn give(draft: &mut Calendar, client: ClientNumber, first: SlotNumber, last: SlotNumber) -> bool
-    ensures entries { entries_of draft.new ≡ give client.number (record { first = first.number; last = last.number }) (entries_of draft.old) }
-    ensures again { result ≡ used (record { first = first.number; last = last.number }) (entries_of draft.old) }
+    ensures entries { entries_of draft.new ≡ give client (record { first = first; last = last }) (entries_of draft.old) }
+    ensures again { result ≡ used (record { first = first; last = last }) (entries_of draft.old) }
 {
     let mut again = false;
     for number in first.number()..last.number() + 1 {
-        if let Ok(slot) = SlotNumber::new(number) {
+        if let Ok(slot) = SlotNumber::try_from(number) {
             if draft.client(slot).is_some() {
                 again = true;
             }
@@ -39,9 +39,9 @@ fn give(draft: &mut Calendar, client: ClientNumber, first: SlotNumber, last: Slo
 fn grant(draft: &mut Calendar, client: u16, group: Group) -> Result<bool, Refusal>
     ensures { MatchResult result (λ again. (fits client (group_of group) ≡ true) × (again ≡ used (group_of group) (entries_of draft.old)) × (entries_of draft.new ≡ give client (group_of group) (entries_of draft.old))) (λ e. (fits client (group_of group) ≡ false) × (e ≡ Refusal.OutOfRange) × (draft.new ≡ draft.old)) }
 {
-    let client = ClientNumber::new(client)?;
-    let first = SlotNumber::new(group.first)?;
-    let last = SlotNumber::new(group.last)?;
+    let client = ClientNumber::try_from(client)?;
+    let first = SlotNumber::try_from(group.first)?;
+    let last = SlotNumber::try_from(group.last)?;
     if group.last < group.first {
         return Err(Refusal::OutOfRange);
     }
@@ -94,7 +94,7 @@ fn claim_all(draft: &mut Calendar, client: u16, text: Text<'_>) -> Result<Claims
 fn is_named(draft: &Calendar, client: u16) -> bool
     ensures { result ≡ named client (entries_of draft.now) }
 {
-    match ClientNumber::new(client) {
+    match ClientNumber::try_from(client) {
         Ok(client) => draft.share(client).0 > 0,
         Err(_) => false,
     }

@@ -21,7 +21,7 @@ mod tests {
         shares: &[(u16, u16, u16)],
     ) -> Result<(), Fail> {
         for share in shares {
-            let client = ClientNumber::new(share.0)?;
+            let client = ClientNumber::try_from(share.0)?;
             assert_eq!(rt;
                 calendar.share(client),
                 (share.1, share.2),
@@ -39,7 +39,7 @@ mod tests {
         entries: &[(u16, u16)],
     ) -> Result<(), Fail> {
         for entry in entries {
-            let slot = SlotNumber::new(entry.0)?;
+            let slot = SlotNumber::try_from(entry.0)?;
             let client = match calendar.client(slot) {
                 Some(client) => client.number(),
                 None => 0,

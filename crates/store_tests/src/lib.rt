@@ -56,32 +56,32 @@ mod tests {
         match step {
             Step::Put(client, a, b, true) => {
                 assert_eq!(rt;
-                    store.put(ClientNumber::new(client)?, data(a), data(b)),
+                    store.put(ClientNumber::try_from(client)?, data(a), data(b)),
                     Ok(())
                 );
                 Ok(())
             }
             Step::Put(client, a, b, false) => {
                 assert_eq!(rt;
-                    store.put(ClientNumber::new(client)?, data(a), data(b)),
+                    store.put(ClientNumber::try_from(client)?, data(a), data(b)),
                     Err(Refusal::NoFreePlace)
                 );
                 Ok(())
             },
             Step::Next(client, a) => {
-                assert_eq!(rt; store.next(ClientNumber::new(client)?), Some(data(a)));
+                assert_eq!(rt; store.next(ClientNumber::try_from(client)?), Some(data(a)));
                 Ok(())
             }
             Step::First(client, a) => {
-                assert_eq!(rt; store.first(ClientNumber::new(client)?), Some(data(a)));
+                assert_eq!(rt; store.first(ClientNumber::try_from(client)?), Some(data(a)));
                 Ok(())
             }
             Step::None(client) => {
-                assert_eq!(rt; store.next(ClientNumber::new(client)?), None);
+                assert_eq!(rt; store.next(ClientNumber::try_from(client)?), None);
                 Ok(())
             },
             Step::Free(client, n) => {
-                assert_eq!(rt; store.free(ClientNumber::new(client)?), n);
+                assert_eq!(rt; store.free(ClientNumber::try_from(client)?), n);
                 Ok(())
             },
         }
@@ -199,10 +199,10 @@ mod tests {
         let bank = Bank::new(&mut memory[0..places], width);
         assert_eq!(rt; bank.areas(), areas as usize);
         if areas > 0 {
-            assert_eq!(rt; bank.free(ClientNumber::new(areas)?), width);
+            assert_eq!(rt; bank.free(ClientNumber::try_from(areas)?), width);
         }
         if areas < 480 {
-            assert_eq!(rt; bank.free(ClientNumber::new(areas + 1)?), 0);
+            assert_eq!(rt; bank.free(ClientNumber::try_from(areas + 1)?), 0);
         }
         Ok(())
     }

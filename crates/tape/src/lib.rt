@@ -60,9 +60,9 @@ impl<'a> Inlet for Tape<'a> {
     ghost waiting = { tape_lists };
 
     fn next(&mut self, client: ClientNumber) -> Option<Block>
-        ensures first { result ≡ first_of (tape_lists self.old client.number) }
-        ensures rest { tape_lists self.new ≡ taken client.number (tape_lists self.old) }
-        ensures holding { tape_holding self.new ≡ after_next client.number (tape_holding self.old) }
+        ensures first { result ≡ first_of (tape_lists self.old client) }
+        ensures rest { tape_lists self.new ≡ taken client (tape_lists self.old) }
+        ensures holding { tape_holding self.new ≡ after_next client (tape_holding self.old) }
         ensures lender { self.new.queue.places.ghost_name ≡ self.old.queue.places.ghost_name }
     {
         match self.queue.remove_first_with(client.number()) {
@@ -80,8 +80,8 @@ impl<'a> Outlet for Tape<'a> {
     }
 
     fn put(&mut self, client: ClientNumber, a: Block, b: Block) -> Result<(), Refusal>
-        ensures put { Put client.number a b result (tape_holding self.old) (tape_holding self.new) }
-        ensures holding { tape_holding self.new ≡ after_put result client.number a b (tape_holding self.old) }
+        ensures put { Put client a b result (tape_holding self.old) (tape_holding self.new) }
+        ensures holding { tape_holding self.new ≡ after_put result client a b (tape_holding self.old) }
         ensures lender { self.new.queue.places.ghost_name ≡ self.old.queue.places.ghost_name }
     {
         if self.queue.free() < 2 {

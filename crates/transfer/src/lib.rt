@@ -26,7 +26,7 @@ pub fn move_pairs<I: Inlet, O: Outlet>(
     pairs: usize,
     filler: Block,
 ) -> Result<(), Refusal>
-    ensures moved { Moved client.number pairs filler result (I.waiting inlet.old) (I.waiting inlet.new) (O.holding outlet.old) (O.holding outlet.new) }
+    ensures moved { Moved client pairs filler result (I.waiting inlet.old) (I.waiting inlet.new) (O.holding outlet.old) (O.holding outlet.new) }
     ensures filled { FillsBehind }
 {
     if outlet.free(client) / 2 < pairs {
@@ -42,8 +42,8 @@ pub fn move_pairs<I: Inlet, O: Outlet>(
 
 // Takes blocks of the client out of the inlet until the output is full, with the filler for those that are missing.
 pub fn take_blocks<I: Inlet>(inlet: &mut I, client: ClientNumber, filler: Block, out: &mut [Block])
-    ensures blocks { out.new ≡ padded filler (length out.old) (I.waiting inlet.old client.number) }
-    ensures left { I.waiting inlet.new ≡ without (length out.old) client.number (I.waiting inlet.old) }
+    ensures blocks { out.new ≡ padded filler (length out.old) (I.waiting inlet.old client) }
+    ensures left { I.waiting inlet.new ≡ without (length out.old) client (I.waiting inlet.old) }
 {
     for i in 0..out.len() {
         out[i] = inlet.next(client).unwrap_or(filler);
@@ -59,7 +59,7 @@ fn put_only<'a, O: Outlet>(
 ) -> Result<usize, Refusal>
     requires only { lengths.now ≡ length packet.now ∷ [] }
     requires lawful { in_range (length packet.now) ≡ true }
-    ensures { PacketPut client.number packet.now result (O.holding outlet.old) (O.holding outlet.new) }
+    ensures { PacketPut client packet.now result (O.holding outlet.old) (O.holding outlet.new) }
 {
     let mut inlet = PacketInlet::new(client, lengths, packet)?;
     let blocks = block_count(packet.len());
@@ -73,7 +73,7 @@ pub fn put_packet<O: Outlet>(
     client: ClientNumber,
     packet: &[u8],
 ) -> Result<usize, Refusal>
-    ensures { PacketPut client.number packet.now result (O.holding outlet.old) (O.holding outlet.new) }
+    ensures { PacketPut client packet.now result (O.holding outlet.old) (O.holding outlet.new) }
 {
     if !is_packet_length(packet.len()) {
         return Err(Refusal::PacketLength);
@@ -90,11 +90,11 @@ pub fn take_packet<I: Inlet>(
     blocks: &mut [Block],
     out: &mut [u8],
 ) -> Result<(usize, usize), Refusal>
-    ensures taken { blocks.new ≡ padded idle_block (length blocks.old) (I.waiting inlet.old client.number) }
-    ensures left { I.waiting inlet.new ≡ without (length blocks.old) client.number (I.waiting inlet.old) }
+    ensures taken { blocks.new ≡ padded idle_block (length blocks.old) (I.waiting inlet.old client) }
+    ensures left { I.waiting inlet.new ≡ without (length blocks.old) client (I.waiting inlet.old) }
     ensures answer { result ≡ read_answer (packet_at blocks.new) (length out.old) }
     ensures output { out.new ≡ leaves result (bytes_of (packet_at blocks.new)) out.old }
-    ensures back { ComesBack (I.waiting inlet.old client.number) (length blocks.old) out.old result out.new }
+    ensures back { ComesBack (I.waiting inlet.old client) (length blocks.old) out.old result out.new }
 {
     take_blocks(inlet, client, Block::idle(), blocks);
     packet::read(blocks, out)

@@ -7,7 +7,7 @@ ghost use Rattle.std.specs.Prelude.{◌≡◌, ◌≤◌, length, IfOk, Ok, Err,
 ghost use Rattle.crc.specs.Bits.{field as bitField};
 ghost use Rattle.crc.specs.Remainder.{remainder};
 ghost use Rattle.numbers.specs.Range.{checked};
-ghost use Rattle.overhead.specs.Format.{entry_of, fields_of, read_bytes};
+ghost use Rattle.overhead.specs.Format.{fields_of, read_bytes};
 ghost use Rattle.std.specs.Option.{option_map};
 ghost use Rattle.value_text.specs.Texts.{seven_digits};
 ghost use Rattle.vector_values.specs.Values.{checked_fields, end_type, made_text, read_overhead, slot_text, written_message, written_overhead, written_packet};
@@ -32,14 +32,14 @@ fn overhead_of(entry: u16, frame: u16) -> Option<Overhead>
 {
     let announced = match entry {
         0 => None,
-        _ => match ClientNumber::new(entry) {
+        _ => match ClientNumber::try_from(entry) {
             Ok(client) => Some(client),
             Err(_) => return None,
         },
     };
-    match FrameNumber::new(frame) {
-        Some(frame) => Some(Overhead { announced, frame }),
-        None => None,
+    match FrameNumber::try_from(frame) {
+        Ok(frame) => Some(Overhead { announced, frame }),
+        Err(_) => None,
     }
 }
 
@@ -53,22 +53,13 @@ pub fn overhead_written(heap: Global, entry: u16, frame: u16) -> Result<String, 
     }
 }
 
-// The client number that an overhead announces, 0 if none.
-fn announced_number(overhead: Overhead) -> u16
-    ensures { result ≡ entry_of overhead.announced }
-{
-    match overhead.announced {
-        Some(client) => client.number(),
-        None => 0,
-    }
-}
-
 // The numbers that an overhead says.
 fn numbers_text(heap: Global, overhead: Overhead) -> Result<String, AllocError>
     ensures { IfOk result (λ t. string_bytes t ≡ read_overhead (Ok (fields_of overhead))) }
 {
-    let client = announced_number(overhead);
-    let frame = overhead.frame.number();
+    let Overhead { announced, frame } = overhead;
+    let client = ClientNumber::entry(announced);
+    let frame = frame.number();
     format!(in heap; "client number {client}, frame number {frame}")
 }
 
@@ -97,7 +88,7 @@ pub fn overhead_read(heap: Global, bytes: &[u8; 7]) -> Result<String, AllocError
 pub fn slot_text(heap: Global, slot: u16) -> Result<String, AllocError>
     ensures { IfOk result (λ t. string_bytes t ≡ slot_text (checked slot)) }
 {
-    match SlotNumber::new(slot) {
+    match SlotNumber::try_from(slot) {
         Ok(slot) => {
             let start = frame::slot_start(slot);
             let block = start.block;

@@ -6,17 +6,17 @@ use Rattle.frame.proofs.block_at.Goals as goal
 pub returns-in-2 : goal.returns-in-2
 returns-in-2 c =
     let F : List ℕ = c.args.overhead.now ++ c.args.payload.now in
-    let e : 2 ≡ c.args.place.number = omega arith in
+    let e : 2 ≡ c.args.place = omega arith in
     c.first_data.ensures ∙ ap (frame_block F) e
 
 pub returns-in-992 : goal.returns-in-992
 returns-in-992 c =
     let F : List ℕ = c.args.overhead.now ++ c.args.payload.now in
-    let e : 992 ≡ c.args.place.number = omega arith in
+    let e : 992 ≡ c.args.place = omega arith in
     end_at c.args.overhead.now c.args.payload.now c.end.result c.told-overhead c.end.ensures.kind c.end.ensures.taken
     ∙ ap (frame_block F) e
 
 pub returns-in_default : goal.returns-in_default
 returns-in_default c =
-    data_at c.args.overhead.now c.args.payload.now c.args.place.number _ c.data.result c.told-overhead
+    data_at c.args.overhead.now c.args.payload.now c.args.place _ c.data.result c.told-overhead
     (λ e. omega arith) (λ e. omega arith) (omega arith) c.data.ensures.kind c.data.ensures.taken

@@ -19,16 +19,16 @@ put_line-at-requires c =
     let text = flat_map (client_line es) (range_with_len 1 (c.loop-number.number - 1)) in
     let kept : length c.loop-number.out ≡ length c.args.out.now =
     ap length c.loop-number.invariant.bytes ∙ length_laid 0 text c.args.out.now (omega arith) in
-    let count : c.share-count.result.0 ≤ 480 = omega (arith, count_le c.in-Ok.client.number es) in
-    let first : c.share-count.result.1 ≤ 480 = omega (arith, first_le c.in-Ok.client.number es) in
+    let count : c.share-count.result.0 ≤ 480 = omega (arith, count_le c.in-Ok.client es) in
+    let first : c.share-count.result.1 ≤ 480 = omega (arith, first_le c.in-Ok.client es) in
     omega (arith, short_line c.loop-number.number c.share-count.result.0 c.share-count.result.1 (omega arith) count first)
 
 pub loop-number-preserved : goal.loop-number-preserved
 loop-number-preserved c =
     let es = entries_of c.args.calendar.now in
     let low : 1 ≤ c.loop-number.number = omega arith in
-    let same : c.in-Ok.client.number ≡ c.loop-number.number =
-    checked_same c.loop-number.number c.in-Ok.client.number c.in-Ok.ensures in
+    let same : c.in-Ok.client ≡ c.loop-number.number =
+    checked_same c.loop-number.number c.in-Ok.client c.in-Ok.ensures in
     let count : c.share-count.result.0 ≡ slot_count c.loop-number.number es =
     c.share-count.ensures.count ∙ ap (λ n. slot_count n es) same in
     let first : c.share-count.result.1 ≡ first_slot c.loop-number.number es =

@@ -42,9 +42,9 @@ returns c =
     let room = leb-true (room_for (length back)) (length c.args.out.now) fits in
     let digits = length-decimal-le 20 (length back) (omega arith) (omega arith) (omega arith) in
     let front = length-append (decimal (length back)) (codes " bytes ") in
-    let counts : Wrote 0 (counts_text c.args.client.number c.args.bytes c.args.blocks) c.args.out.now c.put_counts-at.new.out c.put_counts-at.result =
+    let counts : Wrote 0 (counts_text c.args.client c.args.bytes c.args.blocks) c.args.out.now c.put_counts-at.new.out c.put_counts-at.result =
     wrote_as (ap (λ n. counts_text n c.args.bytes c.args.blocks) c.number.ensures.value) refl c.put_counts-at.ensures.wrote in
-    let wrote : Wrote 0 (carried_text c.args.client.number c.args.bytes c.args.blocks back) c.args.out.now c.put.new.out c.put.result =
+    let wrote : Wrote 0 (carried_text c.args.client c.args.bytes c.args.blocks back) c.args.out.now c.put.new.out c.put.result =
     wrote_more (omega arith) counts
     (wrote_parts (decimal (length back)) (codes " bytes ") (omega (arith, c.put_counts-at.ensures.short)) c.put_number-at.ensures
     (wrote_more (omega (arith, c.put_counts-at.ensures.short)) c.put_hex-at.ensures c.put.ensures)) in

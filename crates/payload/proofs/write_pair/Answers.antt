@@ -10,7 +10,7 @@ returns c =
     let i : ℕ = c.index.result in
     let B : List ℕ = bits c.args.payload.now in
     let X : List ℕ = pair_bits c.args.pair in
-    let e : c.index.result ≡ c.args.slot.number - 1 = omega arith in
+    let e : c.index.result ≡ c.args.slot - 1 = omega arith in
     let s = c.write_at.ensures.sent ∙ ap (λ (n : ℕ). splice n X B) c.of_slot.ensures.bit in
     record {
       sent = s ∙ ap (λ (n : ℕ). splice (132 * n) X B) e;

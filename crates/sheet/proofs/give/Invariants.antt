@@ -7,5 +7,5 @@ abbrev pub invariant-loop-number : goal.invariant-loop-number
 invariant-loop-number l =
     (l.initial.number ≤ l.number)
     × (l.number - l.initial.number ≤ l.number-end - l.initial.number)
-    × (entries_of l.draft ≡ gave l.client.number (l.initial.number - 1) (l.number - l.initial.number) (entries_of l.initial.draft))
+    × (entries_of l.draft ≡ gave l.client (l.initial.number - 1) (l.number - l.initial.number) (entries_of l.initial.draft))
     × (l.again ≡ filled (take (l.number - l.initial.number) (drop (l.initial.number - 1) (entries_of l.initial.draft))))

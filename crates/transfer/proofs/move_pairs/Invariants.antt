@@ -6,7 +6,7 @@ use Rattle.transfer.proofs.move_pairs.Given as goal
 abbrev pub invariant-loop-moved : goal.invariant-loop-moved
 invariant-loop-moved g l =
     (l.moved ≤ l.pairs)
-    × AllMoved l.client.number l.moved l.filler (g.I.Inlet.waiting l.initial.inlet) (g.I.Inlet.waiting l.inlet) (g.O.Outlet.holding l.initial.outlet) (g.O.Outlet.holding l.outlet)
+    × AllMoved l.client l.moved l.filler (g.I.Inlet.waiting l.initial.inlet) (g.I.Inlet.waiting l.inlet) (g.O.Outlet.holding l.initial.outlet) (g.O.Outlet.holding l.outlet)
 
 abbrev pub decreases-loop-moved : goal.decreases-loop-moved
 decreases-loop-moved g l = l.pairs - l.moved

@@ -3,4 +3,4 @@ use Rattle.transfer.proofs.take_blocks.Given as goal
 
 -- so many blocks are taken
 abbrev pub invariant-loop-i : goal.invariant-loop-i
-invariant-loop-i g l = Taking l.filler l.client.number l.i (g.I.Inlet.waiting l.initial.inlet) (g.I.Inlet.waiting l.inlet) l.initial.out l.out
+invariant-loop-i g l = Taking l.filler l.client l.i (g.I.Inlet.waiting l.initial.inlet) (g.I.Inlet.waiting l.inlet) l.initial.out l.out

@@ -6,7 +6,7 @@ use Rattle.transfer.proofs.take_packet.Goals as goal
 
 pub returns : goal.returns
 returns g c =
-    let waits = g.I.Inlet.waiting c.args.inlet.now c.args.client.number in
+    let waits = g.I.Inlet.waiting c.args.inlet.now c.args.client in
     let places = length c.args.blocks.now in
     let all : c.take_blocks.new.out ≡ padded idle_block places waits =
     c.take_blocks.ensures.blocks ∙ ap (λ f. padded f places waits) c.idle.ensures in

@@ -6,7 +6,7 @@ pub overflow_sub-result : goal.overflow_sub-result
 overflow_sub-result c = omega (arith, row_end c.number.result c.args.self.now.width (omega arith))
 
 pub returns-then-end-places : goal.returns-then-end-places
-returns-then-end-places c = area_at c.args.client.number c.number.result c.args.self.now.width _ c.number.ensures.value c.args.client.low c.args.client.high c.if-end-places.true
+returns-then-end-places c = area_at c.args.client c.number.result c.args.self.now.width _ c.number.ensures.value c.number.ensures.range.0 c.number.ensures.range.1 c.if-end-places.true
 
 pub returns-else-end-places : goal.returns-else-end-places
-returns-else-end-places c = area_none c.args.client.number c.number.result c.args.self.now.width _ c.number.ensures.value c.if-end-places.false
+returns-else-end-places c = area_none c.args.client c.number.result c.args.self.now.width _ c.number.ensures.value c.if-end-places.false

@@ -4,5 +4,5 @@ use Rattle.bank.proofs.BankOutlet.put.Goals as goal
 
 pub returns : goal.returns
 returns c =
-    let m = pair_put_by c.args.self.now.width c.args.client.number c.in-Some.start c.args.self.now.memory.now c.args.self.now.rings c.in-Some.ensures c.args.client.low (search rules) c.ring-ring.result c.number.result c.place-p.result c.place-q.result c.args.a c.args.b c.ring-ring.ensures c.number.ensures.value c.place-p.ensures c.place-q.ensures (omega arith) in
+    let m = pair_put_by c.args.self.now.width c.args.client c.in-Some.start c.args.self.now.memory.now c.args.self.now.rings c.in-Some.ensures c.ring-ring.ensures.range (search rules) c.ring-ring.result c.number.result c.place-p.result c.place-q.result c.args.a c.args.b c.ring-ring.ensures.value c.number.ensures.value c.place-p.ensures c.place-q.ensures (omega arith) in
     record { put = m.0; holding = m.1; areas = simp length-set; lender = refl }

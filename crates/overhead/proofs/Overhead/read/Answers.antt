@@ -2,8 +2,9 @@ use Rattle.std.proofs.Common.{ℕ, ◌/◌, ◌<◌, ◌≤◌, List, Err, Resul
 use Rattle.std.specs.Int.Bits.{bit_and}
 use Rattle.std.proofs.lemmas.Result.{err_from_is_err_and}
 use Rattle.crc.specs.Bits.{field}
-use Rattle.overhead.specs.Format.{Fields, entry_of, read_bytes}
+use Rattle.overhead.specs.Format.{Fields, read_bytes}
 use Rattle.overhead.specs.declared.OverheadFault.{OverheadFault}
+use Rattle.numbers.specs.Entries.{entry_of}
 use Rattle.overhead.proofs.Reading.{read, Numbers, covered_rest, code_wrong, code_read, right, read_client, read_frame, read_fields, entry_err, entry_ok, frame_some, frame_none}
 use Rattle.overhead.proofs.Overhead.read.Goals as goal
 
@@ -29,25 +30,25 @@ returns-in_err-announced c =
     (ap (λ (f : OverheadFault). let r : Result Fields OverheadFault = Err f in r) h.1
     ∙ sym (read_client (field bytes 10 56) k.0 (subst (λ (x : ℕ). 480 < x) (sym k.1.entry) h.0)))
 
-pub returns-in-Some : goal.returns-in-Some
+pub returns-in-Ok : goal.returns-in-Ok
 unfolding read_bytes
-returns-in-Some c =
+returns-in-Ok c =
     let bytes : List ℕ = c.args.bytes.now in
     let v : ℕ = c.reverse_bits-numbers.result in
     let k : right (field bytes 10 56) × Numbers bytes v
     = code_read bytes _ _ c.reverse_bits.result c.remainder-remainder.result c.from_le_bytes.result v (read bytes c.told-bytes c.fits-bytes)
     c.degree_seven.ensures.degree c.degree_seven.ensures.terms c.remainder-remainder.ensures.value c.reverse_bits.ensures
     c.if-reverse_bits-remainder.false c.from_le_bytes.ensures c.reverse_bits-numbers.ensures in
-    let f : Fields = record { entry = entry_of c.in_ok-announced.announced; frame = c.in-Some.frame.number } in
+    let f : Fields = record { entry = entry_of c.in_ok-announced.announced; frame = c.in-Ok.frame } in
     let he = entry_ok (bit_and (v / 8 / 512) 1023) f.entry c.in_ok-announced.ensures in
-    let hf = frame_some (bit_and (v / 8) 511) f.frame c.in-Some.ensures in
+    let hf = frame_some (bit_and (v / 8) 511) f.frame c.in-Ok.ensures in
     sym (read_fields (field bytes 10 56) f k.0
     (ap₂ (λ (x y : ℕ). let g : Fields = record { entry = x; frame = y } in g) (k.1.entry ∙ sym he.1) (k.1.frame ∙ sym hf.1))
     (subst (λ (x : ℕ). x ≤ 480) (sym he.1) he.0) (subst (λ (x : ℕ). x ≤ 479) (sym hf.1) hf.0))
 
-pub returns-in-None : goal.returns-in-None
+pub returns-in-Err : goal.returns-in-Err
 unfolding read_bytes
-returns-in-None c =
+returns-in-Err c =
     let bytes : List ℕ = c.args.bytes.now in
     let v : ℕ = c.reverse_bits-numbers.result in
     let k : right (field bytes 10 56) × Numbers bytes v
@@ -55,6 +56,6 @@ returns-in-None c =
     c.degree_seven.ensures.degree c.degree_seven.ensures.terms c.remainder-remainder.ensures.value c.reverse_bits.ensures
     c.if-reverse_bits-remainder.false c.from_le_bytes.ensures c.reverse_bits-numbers.ensures in
     let he = entry_ok (bit_and (v / 8 / 512) 1023) (entry_of c.in_ok-announced.announced) c.in_ok-announced.ensures in
-    let hf = frame_none (bit_and (v / 8) 511) c.in-None.ensures in
+    let hf = frame_none (bit_and (v / 8) 511) _ c.in-Err.ensures in
     sym (read_frame (field bytes 10 56) k.0
     (subst (λ (x : ℕ). x ≤ 480) (sym k.1.entry) he.0) (subst (λ (x : ℕ). 479 < x) (sym k.1.frame) hf))
