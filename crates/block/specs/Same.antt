@@ -1,5 +1,5 @@
 -- When two blocks are the same: by their sync bits and their bytes.
-use Rattle.std.specs.Prelude.{◌≡◌, Bool, Decides, ◌==◌}
+use Rattle.std.specs.Prelude.{◌≡◌, ◌↔◌, Bool, IsTrue, ◌==◌}
 use Rattle.std.specs.Str.{bytes_eq}
 use Rattle.std.specs.Ordering.{on, eq_of_both}
 use Rattle.block.specs.declared.Block.{Block}
@@ -10,4 +10,4 @@ is_same = eq_of_both (on (λ b. sync_number b.sync) ◌==◌) (on (λ b. b.bytes
 
 -- it decides whether they are equal
 abbrev pub SameDecides : Type 0
-SameDecides = (a b : Block) → Decides (is_same a b) (a ≡ b)
+SameDecides = (a b : Block) → IsTrue (is_same a b) ↔ (a ≡ b)

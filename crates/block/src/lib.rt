@@ -1,9 +1,9 @@
-// 66-bit blocks as a 64B/66B coded line carries them: two sync bits and eight bytes.
-// A block's class is told by its sync bits and its type, which is byte 0; only an idle is told by all its bytes.
-// Main promise: `class` answers exactly the class that the definition `class_of` gives the block.
+//! 66-bit blocks as a 64B/66B coded line carries them (IEEE 802.3 clause 82): two sync bits and eight bytes.
+//! A block's class is told by its sync bits and its type, which is byte 0; only an idle is told by all its bytes.
+//! Main promise: `class` answers exactly the class that the definition `class_of` gives the block.
 #![tactic(auto)]
 
-ghost use Rattle.std.specs.Prelude.{◌≡◌, ◌%◌, Decides};
+ghost use Rattle.std.specs.Prelude.{◌≡◌, ◌%◌, ◌↔◌, IsTrue};
 ghost use Rattle.block.specs.Classes.{class_of, control_class, end_class, is_end, is_lawful, is_start};
 ghost use Rattle.block.specs.Fixed.{error_block, idle_block, start_block};
 ghost use Rattle.block.specs.Same.{SameDecides, is_same};
@@ -11,26 +11,28 @@ ghost use Rattle.block.specs.Syncs.{FirstBitLowest, sync_number};
 ghost use Rattle.std.specs.Cmp.Rules.{comparing};
 ghost use Rattle.std.proofs.Common.{rules};
 
-// The two sync bits, named by what they say; the first bit sent stands first.
+/// The two sync bits, named by what they say; the first bit sent stands first.
 #[repr(u8)]
 #[derive(Clone, Copy, Debug, PartialEq, Eq)]
 pub enum Sync {
-    // 00
+    /// 00
     Zeros,
-    // 10
+    /// 10
     Control,
-    // 01
+    /// 01
     Data,
-    // 11
+    /// 11
     Ones,
 }
 
+/// A block as it is sent: its sync bits, then its bytes, byte 0 first.
 #[derive(Clone, Copy, Debug, Eq)]
 pub struct Block {
     pub sync: Sync,
     pub bytes: [u8; 8],
 }
 
+// Written out, since a derived `==` has no clause by which it decides whether two blocks are the same.
 impl PartialEq for Block {
     ghost eq = { is_same };
 
@@ -38,19 +40,19 @@ impl PartialEq for Block {
 
     fn eq(&self, other: &Block) -> bool
         ensures eq { result ≡ is_same self.now other.now }
-        ensures exact { Decides result (self.now ≡ other.now) }
+        ensures exact { IsTrue result ↔ (self.now ≡ other.now) }
         ensures law { SameDecides }
     {
         self.sync == other.sync && self.bytes == other.bytes
     }
 }
 
-// What a block is; an end says how many bytes it carries.
+/// What a block is; an end says how many bytes it carries.
 #[derive(Clone, Copy, Debug, PartialEq, Eq)]
 pub enum Class {
     Data,
     Idle,
-    // control characters other than an idle's
+    /// Control characters other than an idle's.
     Characters,
     OrderedSet,
     Start,
@@ -59,7 +61,7 @@ pub enum Class {
 }
 
 impl Sync {
-    // The sync bits as a number, the first bit sent the lowest.
+    /// The sync bits as a number, the first bit sent the lowest.
     pub fn bits(self) -> u8
         ensures number { result ≡ sync_number self }
         ensures values { FirstBitLowest }
@@ -72,7 +74,8 @@ impl Sync {
         }
     }
 
-    // The sync bits that the two lowest bits of a number are.
+    // Not `From<u8>`, since six of the eight bits are dropped.
+    /// The sync bits that the two lowest bits of a number are.
     pub fn from_bits(bits: u8) -> Sync
         ensures { sync_number result ≡ bits % 4 }
     {
@@ -86,6 +89,7 @@ impl Sync {
 }
 
 impl Block {
+    /// The idle block, which carries nothing.
     pub fn idle() -> Block
         ensures { result ≡ idle_block }
     {
@@ -95,6 +99,7 @@ impl Block {
         }
     }
 
+    /// The block of eight error characters.
     pub fn error() -> Block
         ensures { result ≡ error_block }
     {
@@ -104,7 +109,7 @@ impl Block {
         }
     }
 
-    // The start block that opens a frame.
+    /// The start block that opens a frame.
     pub fn start() -> Block
         ensures { result ≡ start_block }
     {
@@ -114,6 +119,7 @@ impl Block {
         }
     }
 
+    /// What the block is, by its sync bits and its type.
     pub fn class(&self) -> Class
         ensures { result ≡ class_of self.now }
     {
@@ -124,18 +130,21 @@ impl Block {
         }
     }
 
+    /// Has the block a class?
     pub fn lawful(&self) -> bool
         ensures { result ≡ is_lawful (class_of self.now) }
     {
         !matches!(self.class(), Class::Unlawful)
     }
 
+    /// Is its type that of a start?
     pub fn is_start(&self) -> bool
         ensures { result ≡ is_start (class_of self.now) }
     {
         matches!(self.class(), Class::Start)
     }
 
+    /// Is its type that of an end?
     pub fn is_end(&self) -> bool
         ensures { result ≡ is_end (class_of self.now) }
     {

@@ -1,36 +1,37 @@
-// The causes for which a call is refused, in one enum for the whole product.
-// Each cause has a fixed number, by which a script or an operator knows it.
-// Main promise: `number` answers the number that the definition `number_of` gives the cause.
+//! The causes for which a call is refused, in one enum for the whole product.
+//! Each cause has a fixed number, by which a script or an operator knows it.
+//! Main promise: `number` answers the number that the definition `number_of` gives the cause.
 #![tactic(auto)]
 
 ghost use Rattle.std.specs.Prelude.{◌≡◌};
 ghost use Rattle.refusal.specs.Numbers.{number_of};
 
+/// Why a call is refused.
 #[derive(Clone, Copy, Debug, PartialEq, Eq)]
 pub enum Refusal {
-    // a byte of the sheet is no mark
+    /// A byte of the sheet is no mark.
     MarkNotAllowed,
-    // a line of the sheet has not the form of a lease, or the sheet is too long
+    /// A line of the sheet has not the form of a lease, or the sheet is too long.
     FormBroken,
-    // a number is outside 1 to 480, or a group's last slot lies before its first
+    /// A number is outside its range, which is 1 to 480 for clients and slots, or a group's last slot lies before its first.
     OutOfRange,
-    // a slot is given twice
+    /// A slot is given twice.
     SlotTwice,
-    // a client is named on two lines
+    /// A client is named on two lines.
     ClientTwice,
-    // a packet's length is outside 64 to 2,000, or lengths do not add up to the bytes
+    /// A packet's length is outside 64 to 2,000, or lengths do not add up to the bytes.
     PacketLength,
-    // fewer than two free places at an outlet, or none at a queue
+    /// Fewer than two free places at an outlet, or none at a queue.
     NoFreePlace,
-    // a message's kind or value bytes are wrong
+    /// A message's kind or value bytes are wrong.
     MessageInvalid,
-    // no packet stands at the front of the blocks
+    /// No packet stands at the front of the blocks.
     NoPacket,
-    // the output is too short
+    /// The output is too short.
     OutputTooShort,
 }
 
-// The level at which a sheet is refused: its marks, the form of a line, or the calendar that it gives.
+/// The level at which a sheet is refused: its marks, the form of a line, or the calendar that it gives.
 #[derive(Clone, Copy, Debug, PartialEq, Eq)]
 pub enum Level {
     Marks,
@@ -38,7 +39,7 @@ pub enum Level {
     Calendar,
 }
 
-// Why a sheet is refused: the cause, the level that found it, and the line, counted from 1.
+/// Why a sheet is refused: the cause, the level that found it, and the line, counted from 1.
 #[derive(Clone, Copy, Debug, PartialEq, Eq)]
 pub struct SheetRefusal {
     pub cause: Refusal,
@@ -47,6 +48,8 @@ pub struct SheetRefusal {
 }
 
 impl Refusal {
+    // Not `From<Refusal> for u8`, since a caller would not say which number it takes.
+    /// The number by which a script or an operator knows the cause.
     pub fn number(self) -> u8
         ensures { result ≡ number_of self }
     {
