@@ -1,12 +1,13 @@
 -- How a share grows by one entry, and what count and first slot say of a client's slots.
-use Rattle.std.proofs.Common.{◌≡◌, ℕ, zero, suc, ◌+◌, ◌-◌, ◌<◌, ◌≤◌, true, false, eqb, List, [], ◌∷◌, cond, map, length, get_or, Option, sym, refl, ap, ◌∙◌, inl, inr, add_comm, ◌==◌, arith}
+use Rattle.std.proofs.Common.{◌≡◌, ℕ, zero, suc, ◌+◌, ◌-◌, ◌<◌, ◌≤◌, true, false, eqb, List, [], ◌∷◌, cond, map, length, get_or, drop, Some, None, Option, sym, refl, ap, ◌∙◌, inl, inr, add_comm, ◌==◌, arith}
 use Rattle.std.proofs.lemmas.Bool.{cases_Bool, cond-true, cond-false, eq-eqb, ne_eqb, eqb-true, eqb-false}
 use Rattle.std.proofs.lemmas.List.Recursion.{is_count_by}
 use Rattle.std.proofs.lemmas.Bool.Decides.{nat_tests}
+use Rattle.std.proofs.lemmas.List.Quantifiers.{position-Some}
 use Rattle.std.specs.List.{count_by, position}
 use Rattle.std.specs.Option.{option_map_or}
 use Rattle.numbers.specs.Entries.{entry_of}
-use Rattle.calendar.specs.Share.{slot_count, first_from, first_slot, HasSlot, ShareLaw}
+use Rattle.calendar.specs.Share.{slot_count, first_from, first_slot, is_client, HasSlot, ShareLaw}
 
 pub count_yes : (c e : ℕ) (es : List ℕ) → eqb e c ≡ true → slot_count c (e ∷ es) ≡ slot_count c es + 1
 count_yes c e es h = cond-true (eqb e c) _ _ h
@@ -109,17 +110,51 @@ share_law c es =
       together = (zero_count 1 c es (omega arith), zero_first 1 c es (omega arith));
     }
 
+-- no client has number 0, so an empty entry is no client's
+is_own : (c : ℕ) → 1 ≤ c → (o : Option ℕ) → (entry_of o == c) ≡ is_client c o
+is_own c low (Some e) = refl
+is_own c low None = ne_eqb 0 c (λ e. omega arith)
+
 -- the client's slots are counted among the entries
-pub is_count : (c : ℕ) (os : List (Option ℕ)) → slot_count c (map entry_of os) ≡ count_by (λ o. entry_of o == c) os
-is_count c os =
-    is_count_by (λ xs. slot_count c (map entry_of xs)) (λ o. entry_of o == c) refl
-    (λ x xs. ap (λ m. cond (entry_of x == c) m (slot_count c (map entry_of xs))) (add_comm (slot_count c (map entry_of xs)) 1)) os
+is_count : (c : ℕ) → 1 ≤ c → (os : List (Option ℕ)) → slot_count c (map entry_of os) ≡ count_by (is_client c) os
+is_count c low os =
+    is_count_by (λ xs. slot_count c (map entry_of xs)) (is_client c) refl
+    (λ x xs.
+    ap (λ b. cond b (slot_count c (map entry_of xs) + 1) (slot_count c (map entry_of xs))) (is_own c low x)
+    ∙ ap (λ m. cond (is_client c x) m (slot_count c (map entry_of xs))) (add_comm (slot_count c (map entry_of xs)) 1)) os
 
 -- the first slot is one more than the place of the first entry
-pub is_first : (s c : ℕ) (os : List (Option ℕ)) → first_from s c (map entry_of os) ≡ option_map_or (λ i. s + i) (position (λ o. entry_of o == c) os) 0
-is_first s c [] = refl
-is_first s c (o ∷ os) =
-    elim (cases_Bool (entry_of o == c)) [
-      | inl t ↦ grind (arith, nat_tests, first_yes s c (entry_of o) (map entry_of os) t)
-      | inr f ↦ grind (arith, nat_tests, first_no s c (entry_of o) (map entry_of os) f, is_first (s + 1) c os)
+is_first : (s c : ℕ) → 1 ≤ c → (os : List (Option ℕ)) → first_from s c (map entry_of os) ≡ option_map_or (λ i. s + i) (position (is_client c) os) 0
+is_first s c low [] = refl
+is_first s c low (o ∷ os) =
+    elim (cases_Bool (is_client c o)) [
+      | inl t ↦ grind (arith, nat_tests, first_yes s c (entry_of o) (map entry_of os) (is_own c low o ∙ t))
+      | inr f ↦ grind (arith, nat_tests, first_no s c (entry_of o) (map entry_of os) (is_own c low o ∙ f), is_first (s + 1) c low os)
     ]
+
+-- entries that are not the client's count nothing
+count_dropped : (c : ℕ) → 1 ≤ c → (os : List (Option ℕ)) (i : ℕ) → ((k : ℕ) (d : Option ℕ) → k < i → is_client c (get_or os k d) ≡ false) → slot_count c (map entry_of os) ≡ slot_count c (map entry_of (drop i os))
+count_dropped c low os zero h = refl
+count_dropped c low [] (suc i) h = refl
+count_dropped c low (o ∷ os) (suc i) h =
+    count_no c (entry_of o) (map entry_of os) (is_own c low o ∙ h 0 None (omega arith))
+    ∙ count_dropped c low os i (λ k d below. h (suc k) d (omega (arith, below)))
+
+-- what count and first slot say, wherever they come from
+share_law_at : (c : ℕ) (es : List ℕ) (n f : ℕ) → n ≡ slot_count c es → f ≡ first_slot c es → (n ≡ slot_count c es) × (f ≡ first_slot c es) × ShareLaw c es n f
+share_law_at c es n f h k = (h, k, rw (h, k) (share_law c es))
+
+-- what a search for the first entry finds
+abbrev pub Shares : ℕ → List (Option ℕ) → ℕ → ℕ → Type 0
+Shares c os n f = (n ≡ slot_count c (map entry_of os)) × (f ≡ first_slot c (map entry_of os)) × ShareLaw c (map entry_of os) n f
+
+pub some_share : (c i n : ℕ) → 1 ≤ c → (os : List (Option ℕ)) → position (is_client c) os ≡ Some i → n ≡ count_by (is_client c) (drop i os) → Shares c os n (i + 1)
+some_share c i n low os h e =
+    share_law_at c (map entry_of os) n (i + 1)
+    (e ∙ sym (count_dropped c low os i (λ k d below. (position-Some (is_client c) os i d h).2 k below) ∙ is_count c low (drop i os)))
+    (add_comm i 1 ∙ sym (is_first 1 c low os ∙ ap (λ o. option_map_or (λ k. 1 + k) o 0) h))
+
+pub no_share : (c : ℕ) → 1 ≤ c → (os : List (Option ℕ)) → position (is_client c) os ≡ None → Shares c os 0 0
+no_share c low os h =
+    let first : first_slot c (map entry_of os) ≡ 0 = is_first 1 c low os ∙ ap (λ o. option_map_or (λ k. 1 + k) o 0) h in
+    share_law_at c (map entry_of os) 0 0 (sym ((share_law c (map entry_of os)).together.1 first)) (sym first)

@@ -1,15 +1,15 @@
 -- A client's share of a calendar: how many slots it has, and which is its first.
-use Rattle.std.specs.Prelude.{◌≡◌, ℕ, ◌+◌, ◌-◌, ◌<◌, ◌≤◌, cond, List, [], ◌∷◌, length, ◌==◌, ◌≢◌, slice_index}
+use Rattle.std.specs.Prelude.{◌≡◌, ℕ, ◌+◌, ◌-◌, ◌<◌, ◌≤◌, Bool, false, Some, None, Option, if◌then◌else◌, List, [], ◌∷◌, length, ◌==◌, ◌≢◌, slice_index}
 
 -- how many entries are the client's
 abbrev pub slot_count : ℕ → List ℕ → ℕ
 slot_count c [] = 0
-slot_count c (e ∷ es) = cond (e == c) (slot_count c es + 1) (slot_count c es)
+slot_count c (e ∷ es) = if e == c then slot_count c es + 1 else slot_count c es
 
 -- the slot of the first entry that is the client's, if the entries begin at slot s; 0 if none is
 abbrev pub first_from : ℕ → ℕ → List ℕ → ℕ
 first_from s c [] = 0
-first_from s c (e ∷ es) = cond (e == c) s (first_from (s + 1) c es)
+first_from s c (e ∷ es) = if e == c then s else first_from (s + 1) c es
 
 -- the client's first slot; slots are numbered from 1
 abbrev pub first_slot : ℕ → List ℕ → ℕ
@@ -29,3 +29,8 @@ pub record ShareLaw (c : ℕ) (es : List ℕ) (count first : ℕ) : Type 0 where
   pub lowest : (s : ℕ) → s < first → HasSlot c es s → ⊥
   -- count and first slot are 0 together
   pub together : (count ≡ 0 → first ≡ 0) × (first ≡ 0 → count ≡ 0)
+
+-- the entry is the client's
+abbrev pub is_client : ℕ → Option ℕ → Bool
+is_client c (Some e) = e == c
+is_client c None = false

@@ -3,9 +3,9 @@
 //! Main promise: `assign` changes one entry and no other; `share` counts a client's slots and finds its lowest one.
 #![tactic(auto)]
 
-ghost use Rattle.std.specs.Prelude.{◌≡◌, ◌-◌, ◌<◌, ◌==◌, IfSome, count_by, length, position, replicate, slice_index, slice_set, true};
+ghost use Rattle.std.specs.Prelude.{◌≡◌, ◌-◌, ◌<◌, ◌≤◌, IfSome, count_by, drop, length, position, replicate, slice_index, slice_set, true};
 ghost use Rattle.std.specs.List.{AllPass};
-ghost use Rattle.calendar.specs.Share.{ShareLaw, first_slot, slot_count};
+ghost use Rattle.calendar.specs.Share.{ShareLaw, first_slot, is_client, slot_count};
 ghost use Rattle.numbers.specs.Entries.{entry_of, is_entry};
 
 use numbers::{ClientNumber, SlotNumber};
@@ -55,45 +55,32 @@ impl Calendar {
         ensures first { result.1 ≡ first_slot client (entries_of self.now) }
         ensures law { ShareLaw client (entries_of self.now) result.0 result.1 }
     {
-        (self.slot_count(client), self.first_slot(client))
-    }
-
-    #[tactic(auto, using(crate::proofs::Shares::is_count))]
-    fn slot_count(&self, client: ClientNumber) -> u16
-        ensures { result ≡ slot_count client (entries_of self.now) }
-    {
-        self.entry_count(client) as u16
-    }
-
-    // 0 if the client has no slot
-    #[tactic(auto, using(crate::proofs::Shares::is_first))]
-    fn first_slot(&self, client: ClientNumber) -> u16
-        ensures { result ≡ first_slot client (entries_of self.now) }
-    {
+        // says of the client what its type keeps, that it is in range
+        let _ = client.number();
         match self.first_index(client) {
-            Some(index) => index as u16 + 1,
-            None => 0,
+            Some(first) => (self.count_from(first, client), first as u16 + 1),
+            None => (0, 0),
         }
     }
 
-    fn entry_count(&self, client: ClientNumber) -> usize
-        ensures { result ≡ count_by (λ e. entry_of e == client) self.now.entries }
-    {
-        let number = client.number();
-        self.entries
-            .iter()
-            .filter(|entry| ClientNumber::entry(**entry) == number)
-            .count()
-    }
-
+    // The place of the client's first entry, from 0.
     fn first_index(&self, client: ClientNumber) -> Option<usize>
-        ensures value { result ≡ position (λ e. entry_of e == client) self.now.entries }
+        ensures value { result ≡ position (is_client client) self.now.entries }
         ensures within { IfSome result (λ i. i < 480) }
     {
-        let number = client.number();
-        self.entries
+        self.entries.iter().position(|entry| *entry == Some(client))
+    }
+
+    // How many entries from this place on are the client's.
+    fn count_from(&self, place: usize, client: ClientNumber) -> u16
+        requires { place ≤ 480 }
+        ensures { result ≡ count_by (is_client client) (drop place self.now.entries) }
+    {
+        let entries = &self.entries[..];
+        entries[place..]
             .iter()
-            .position(|entry| ClientNumber::entry(*entry) == number)
+            .filter(|entry| **entry == Some(client))
+            .count() as u16
     }
 
     /// Every calendar has 480 entries, each a client number or 0.

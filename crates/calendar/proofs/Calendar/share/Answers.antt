@@ -1,7 +1,13 @@
-use Rattle.std.proofs.Common.{sym}
-use Rattle.calendar.specs.Entries.{entries_of}
-use Rattle.calendar.proofs.Shares.{share_law}
+use Rattle.std.proofs.Common.{sym, ◌∙◌}
+use Rattle.calendar.proofs.Shares.{no_share, some_share}
 use Rattle.calendar.proofs.Calendar.share.Goals as goal
 
-pub returns-clause-law : goal.returns-clause-law
-returns-clause-law c = rw (c.slot_count.ensures, c.first_slot.ensures) (share_law c.args.client (entries_of c.args.self.now))
+pub returns-in-Some : goal.returns-in-Some
+returns-in-Some c =
+    let s = some_share c.args.client c.in-Some.first c.count_from.result c.number.ensures.range.0 c.args.self.now.entries (sym c.first_index.ensures.value ∙ c.in-Some.is) c.count_from.ensures in
+    record { count = s.0; first = s.1; law = s.2 }
+
+pub returns-in-None : goal.returns-in-None
+returns-in-None c =
+    let n = no_share c.args.client c.number.ensures.range.0 c.args.self.now.entries (sym c.first_index.ensures.value ∙ c.in-None.is) in
+    record { count = n.0; first = n.1; law = n.2 }
