@@ -3,7 +3,7 @@
 // Main promise: a slot's pair is read from and written to exactly its bits, and packing and unpacking undo each other.
 #![tactic(auto)]
 
-ghost use Rattle.std.specs.Prelude.{◌≡◌, ◌+◌, ◌-◌, ◌*◌, ◌<◌, ◌≤◌, ◌++◌, length, take, drop, slice_index, slice_set};
+ghost use Rattle.std.specs.Prelude.{◌≡◌, ◌+◌, ◌-◌, ◌*◌, ◌<◌, ◌≤◌, ◌⊎◌, ◌++◌, length, take, drop, slice_index, slice_set};
 ghost use Rattle.block.specs.Whole.{Bytes, Whole};
 ghost use Rattle.payload.specs.Bits.{BitsAreNumbered, bits, low, splice};
 ghost use Rattle.payload.specs.Pairs.{block_bits, pair_bits, WholePair};
@@ -47,16 +47,7 @@ fn word_at(payload: &Payload, at: usize) -> u64
     requires { at + 8 ≤ 7920 }
     ensures { low 64 result ≡ take 64 (drop (8 * at) (bits payload.now)) }
 {
-    u64::from_le_bytes([
-        payload[at],
-        payload[at + 1],
-        payload[at + 2],
-        payload[at + 3],
-        payload[at + 4],
-        payload[at + 5],
-        payload[at + 6],
-        payload[at + 7],
-    ])
+    word(&<[u8; 8]>::try_from(&payload[at..at + 8]).unwrap())
 }
 
 // The pair that begins at the lowest bit of byte `at`.
@@ -97,20 +88,14 @@ fn put_word(payload: &mut Payload, at: usize, word: u64)
     payload[at..at + 8].copy_from_slice(&word.to_le_bytes());
 }
 
-// Writes the low half of a byte.
-fn put_low(payload: &mut Payload, at: usize, half: u8)
-    requires { (at < 7920) × (half < 16) }
-    ensures { bits payload.new ≡ splice (8 * at) (low 4 half) (bits payload.old) }
+// Writes four bits of a byte: those from bit 0 on, or those from bit 4 on.
+fn put_half<const FROM: u32>(payload: &mut Payload, at: usize, half: u8)
+    requires within { at < 7920 }
+    requires small { half < 16 }
+    requires from { (FROM ≡ 0) ⊎ (FROM ≡ 4) }
+    ensures { bits payload.new ≡ splice (8 * at + FROM) (low 4 half) (bits payload.old) }
 {
-    payload[at] = payload[at] & 0xf0 | half;
-}
-
-// Writes the high half of a byte.
-fn put_high(payload: &mut Payload, at: usize, half: u8)
-    requires { (at < 7920) × (half < 16) }
-    ensures { bits payload.new ≡ splice (8 * at + 4) (low 4 half) (bits payload.old) }
-{
-    payload[at] = payload[at] & 0x0f | half << 4;
+    payload[at] = payload[at] & 0xf0 >> FROM | half << FROM;
 }
 
 // Writes the pair from the lowest bit of byte `at` on.
@@ -124,7 +109,7 @@ fn write_low(payload: &mut Payload, at: usize, pair: Pair)
     let sync = pair.second.sync.bits() as u64;
     put_word(payload, at, pair.first.sync.bits() as u64 | first << 2);
     put_word(payload, at + 8, first >> 62 | sync << 2 | second << 4);
-    put_low(payload, at + 16, (second >> 60) as u8);
+    put_half::<0>(payload, at + 16, (second >> 60) as u8);
 }
 
 // Writes the pair from bit 4 of byte `at` on.
@@ -136,7 +121,7 @@ fn write_high(payload: &mut Payload, at: usize, pair: Pair)
     let first = word(&pair.first.bytes);
     let second = word(&pair.second.bytes);
     let sync = pair.second.sync.bits() as u64;
-    put_high(
+    put_half::<4>(
         payload,
         at,
         pair.first.sync.bits() | ((first & 3) as u8) << 2,
@@ -249,10 +234,9 @@ pub fn unpack(payload: &Payload, pairs: &mut [Pair; 480])
 }
 
 // The law by which the numbering of bits is believed.
-pub fn bits_are_numbered() -> u8
+pub fn bits_are_numbered()
     ensures { BitsAreNumbered }
 {
-    0
 }
 
 #[cfg(test)]

@@ -1,9 +1,9 @@
-use Rattle.std.proofs.Common.{ℕ, sym, ap, ◌∙◌, arith}
-use Rattle.payload.specs.Bits.{low}
-use Rattle.payload.proofs.Laws.{num_word, word_at}
+use Rattle.std.proofs.Common.{◌∙◌, ap, arith}
+use Rattle.payload.specs.Bits.{bits}
+use Rattle.payload.proofs.Writing.{bits_taken}
 use Rattle.payload.proofs.word_at.Goals as goal
 
 pub returns : goal.returns
 returns c =
-    ap (λ (x : ℕ). low 64 x) (c.from_le_bytes.ensures ∙ num_word c.args.payload.now c.args.at c.fits-payload (omega arith))
-    ∙ sym (word_at c.args.payload.now c.args.at (omega arith))
+    let h = rw c.unwrap.ensures at c.try_from.ensures.1 in
+    c.word.ensures.value ∙ ap bits h.same ∙ bits_taken c.args.payload.now c.args.at _ (omega arith) (omega arith)
