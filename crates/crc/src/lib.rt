@@ -76,6 +76,7 @@ impl Generator {
 }
 
 /// The remainder is that of the division, and its laws, for every generator.
+#[tactic(auto, using(crate::proofs::Division::laws, crate::proofs::Generators::known))]
 pub fn laws_hold()
     ensures laws { (w G : ℕ) → G / 2 ^ w ≡ 1 → Laws w G }
     ensures known { Known }
@@ -87,6 +88,7 @@ pub fn detection_holds()
 {}
 
 /// How the bits of bytes are numbered.
+#[tactic(auto, using(crate::proofs::Places::numbered))]
 pub fn numbering_holds()
     ensures { Numbered }
 {}

@@ -10,7 +10,7 @@ use Rattle.payload.specs.declared.Pair.{Pair}
 use Rattle.payload.specs.Bits.{bits, bytes_of, splice}
 use Rattle.payload.specs.Pairs.{pair_bits, pair_of, WholePair}
 use Rattle.payload.specs.Payloads.{pair_at, pairs_of, payload_of}
-use Rattle.payload.proofs.Back.{Bits, append_bits, bits_back, bits_bits, bytes_back, drop_bits_bits, pair_back, pair_bits_back, pair_length, take_bits}
+use Rattle.payload.proofs.Back.{Bits, bits_bits, bytes_back, drop_bits_bits, pair_back, pair_bits_back, pair_length, take_bits}
 use Rattle.payload.proofs.Laws.{length_bits}
 use Rattle.payload.proofs.Reading.{take_add}
 

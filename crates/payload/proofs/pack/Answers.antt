@@ -35,7 +35,7 @@ returns c =
     sym (take_all (132 * (2 * c.loop-two.two)) (bits p) (omega (arith, length_bits c.loop-two.payload))) ∙ c.loop-two.invariant.0
     ∙ ap (λ (z : List Pair). flat_map pair_bits z) (take_all (2 * c.loop-two.two) ps (omega arith)) in
     record {
-      made = payload_is p ps h c.hold_bytes.ensures.bytes sent;
+      made = payload_is p ps h c.hold_bytes.ensures sent;
       sent = sent;
       undone = pairs_packed p ps blank c.told-pairs (λ j l. c.loop-two.invariant.2 j (omega arith)) sent;
     }
