@@ -1,6 +1,6 @@
-// Measures packing and unpacking: ten thousand payloads each way, each a little other than the one before.
-// Standard output has the number of blocks moved and a checksum, standard error the nanoseconds a block took.
-// Main promise: the blocks counted are those that were packed and unpacked, and the payload summed up is that of the pairs.
+//! Measures packing and unpacking: ten thousand payloads each way, each a little other than the one before.
+//! Standard output has the number of blocks moved and a checksum, standard error the time a block took, in hundredths of a nanosecond.
+//! Main promise: the blocks counted are those that were packed and unpacked, and the payload summed up is that of the pairs.
 #![tactic(auto)]
 
 ghost use Rattle.std.specs.Prelude.{◌≡◌, ◌*◌, fold};
@@ -15,12 +15,16 @@ use std::time::{Duration, Instant};
 // The payloads packed, and the payloads unpacked.
 const ROUNDS: usize = 10_000;
 
+// `next`, `block` and `fill` make something to pack; which bits, the checksum of the stored output pins.
+
+// The next of a sequence of numbers of many bits.
 fn next(x: u64) -> u64 {
     let a = x ^ x << 13;
     let b = a ^ a >> 7;
     b ^ b << 17
 }
 
+// A block of a number's bits.
 fn block(x: u64) -> Block {
     Block {
         sync: Sync::from_bits((x >> 3 & 3) as u8),
@@ -43,6 +47,7 @@ fn fill(pairs: &mut [Pair; 480]) {
 }
 
 // Packs again and again, and answers the number of blocks moved.
+// This and `unpack_rounds` are two: one function over a closure would say nothing of the buffers that the closure holds.
 fn pack_rounds(pairs: &mut [Pair; 480], payload: &mut Payload) -> u64
     ensures moved { result ≡ 9600000 }
     ensures packed { payload.new ≡ payload_of pairs.new }
@@ -72,14 +77,14 @@ fn unpack_rounds(payload: &mut Payload, pairs: &mut [Pair; 480]) -> u64
     moved
 }
 
+// A checksum of the payload, begun with another.
 fn checksum(start: u64, payload: &Payload) -> u64
     ensures { result ≡ fold summed start payload.now }
 {
-    let mut sum = start;
-    for b in payload {
-        sum = sum.wrapping_mul(31).wrapping_add(*b as u64);
-    }
-    sum
+    payload.iter().fold(
+        start,
+        |sum, b| sum.wrapping_mul(31).wrapping_add(u64::from(*b)),
+    )
 }
 
 // Hundredths of a nanosecond for each of the blocks of one direction.
