@@ -1,10 +1,10 @@
 -- What is read: back again what was written, and a wrong remainder after few changes.
-use Rattle.std.proofs.Common.{◌≡◌, ℕ, ◌/◌, ◌%◌, ◌<◌, ◌≤◌, Bool, true, false, cond, ltb, leb, List, [], ◌∷◌, ◌++◌, length, get_or, take, drop, Some, None, Ok, Err, Option, Result, sym, refl, ap, ◌∙◌, ap₂, mod-eq_of_lt, arith, lit≤, pow_pos}
+use Rattle.std.proofs.Common.{◌≡◌, ℕ, ◌/◌, ◌%◌, ◌<◌, ◌≤◌, Bool, true, false, cond, ltb, List, [], ◌∷◌, ◌++◌, length, get_or, take, drop, Ok, Err, Result, sym, refl, ap, ◌∙◌, ap₂, mod-eq_of_lt, arith, lit≤, pow_pos}
 use Rattle.std.specs.Int.Bits.{bit_and}
 use Rattle.std.proofs.lemmas.Nat.{and_mask}
 use Rattle.std.specs.Int.{reverse_bits_onto}
 use Rattle.std.proofs.lemmas.List.{length-take, length-drop, take-append-drop, take-take, same_lists, places}
-use Rattle.std.proofs.lemmas.Bool.{eq-eqb, ne_eqb, le-ltb, lt-ltb, ltb-true, ltb-false}
+use Rattle.std.proofs.lemmas.Bool.{eq-eqb, ne_eqb, le-ltb}
 use Rattle.crc.specs.Bits.{low_first, high_first, bits, field}
 use Rattle.crc.specs.Laws.{value, Detects}
 use Rattle.crc.specs.Remainder.{remainder}
@@ -14,9 +14,6 @@ use Rattle.crc.proofs.Digits.{value_high}
 use Rattle.crc.proofs.Detect.{detects}
 use Rattle.crc.proofs.Generators.{seven}
 use Rattle.overhead.specs.Format.{Fields, fields_in, covered_bits, overhead_bits, remainder_of, read_word, read_bytes}
-use Rattle.numbers.specs.Range.{checked_frame}
-use Rattle.refusal.specs.declared.Refusal.{Refusal}
-use Rattle.std.proofs.lemmas.Bool.Decides.{nat_tests}
 use Rattle.overhead.specs.Entry.{read_entry, read_frame_number}
 use Rattle.overhead.specs.Laws.{ChangesSeen}
 use Rattle.overhead.proofs.Words.{word_of, numbers_in, word_read}

@@ -88,10 +88,8 @@ mod tests {
 
     fn read_numbers(bytes: &[u8; 7]) -> Result<(u16, u16), OverheadFault> {
         let overhead = Overhead::read(bytes)?;
-        Ok((
-            ClientNumber::entry(overhead.announced),
-            overhead.frame.number(),
-        ))
+        let entry = overhead.announced.map_or(0, |client| client.number());
+        Ok((entry, overhead.frame.number()))
     }
 
     // Each remainder by long division of the polynomials.
@@ -100,6 +98,7 @@ mod tests {
         let client_one = [0x00, 0x00, 0x08, 0x00, 0x00, 0x00, 0xC8];
         let last_client = [0x00, 0x78, 0x70, 0x1F, 0x00, 0x00, 0xE8];
         let read = Overhead::read(&last_client)?;
+        assert!(rt; read.announced.is_some());
         assert_eq!(rt; read.write(), last_client);
         assert_eq!(rt; read_numbers(&client_one), Ok((1, 0)));
         assert_eq!(rt; read_numbers(&last_client), Ok((480, 479)));
