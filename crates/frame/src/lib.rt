@@ -40,6 +40,7 @@ pub struct SlotStart {
 }
 
 /// Where a slot begins.
+#[tactic(auto, using(crate::proofs::Starts::slots_begin_there))]
 pub fn slot_start(slot: SlotNumber) -> SlotStart
     ensures made { result ≡ slot_start slot }
     ensures values { SlotStarts }
@@ -93,6 +94,7 @@ fn end(payload: &Payload) -> Block
 }
 
 /// Stores what the block at a place carries, and leaves all other bytes; a start block carries nothing.
+#[tactic(auto, using(crate::proofs::Frames::frame_restored, crate::proofs::Storing::past_stored, crate::proofs::Storing::stored_data))]
 pub fn store_block(
     block: &Block,
     place: FramePlace,
