@@ -4,6 +4,7 @@
 #![tactic(auto)]
 
 ghost use Rattle.std.specs.Prelude.{◌≡◌, ◌*◌, fold};
+ghost use Rattle.bench.specs.Filled.{block_of, next, pairs_from};
 ghost use Rattle.bench.specs.Sums.{summed};
 ghost use Rattle.payload.specs.Payloads.{pairs_of, payload_of};
 
@@ -15,17 +16,21 @@ use std::time::{Duration, Instant};
 // The payloads packed, and the payloads unpacked.
 const ROUNDS: usize = 10_000;
 
-// `next`, `block` and `fill` make something to pack; which bits, the checksum of the stored output pins.
-
-// The next of a sequence of numbers of many bits.
-fn next(x: u64) -> u64 {
+// The next of a sequence of numbers of many bits (xorshift).
+#[tactic(auto, unfolding(crate::specs::Filled::next))]
+fn next(x: u64) -> u64
+    ensures { result ≡ next x }
+{
     let a = x ^ x << 13;
     let b = a ^ a >> 7;
     b ^ b << 17
 }
 
 // A block of a number's bits.
-fn block(x: u64) -> Block {
+#[tactic(auto, using(crate::proofs::Filling::sync_is), unfolding(crate::specs::Filled::block_of))]
+fn block(x: u64) -> Block
+    ensures { result ≡ block_of x }
+{
     Block {
         sync: Sync::from_bits((x >> 3 & 3) as u8),
         bytes: x.to_le_bytes(),
@@ -33,14 +38,15 @@ fn block(x: u64) -> Block {
 }
 
 // Pairs of many bits, the same at each run.
-fn fill(pairs: &mut [Pair; 480]) {
-    let mut x = 88172645463325252u64;
+fn fill(pairs: &mut [Pair; 480])
+    ensures { pairs.new ≡ pairs_from 88172645463325252 480 }
+{
+    let mut x = 88172645463325252;
     for pair in pairs.iter_mut() {
-        x = next(x);
-        let first = block(x);
-        x = next(x);
+        let first = next(x);
+        x = next(first);
         *pair = Pair {
-            first,
+            first: block(first),
             second: block(x),
         };
     }
