@@ -11,8 +11,8 @@ ghost use Rattle.crc.specs.Remainder.{remainder as rest, step};
 /// A generator by its terms: the digit of weight 2^k is the coefficient of x^k, and the highest is that of x^degree.
 #[derive(Clone, Copy)]
 pub struct Generator {
-    degree: u32,
-    terms: u16,
+    pub degree: u32,
+    pub terms: u16,
     ghost fits: { degree < 16 },
     ghost highest: { terms / 2 ^ degree ≡ 1 },
 }
