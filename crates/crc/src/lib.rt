@@ -9,7 +9,7 @@ ghost use Rattle.crc.specs.Laws.{Detecting, Detects, Known, Laws};
 ghost use Rattle.crc.specs.Remainder.{remainder as rest, step};
 
 /// A generator by its terms: the digit of weight 2^k is the coefficient of x^k, and the highest is that of x^degree.
-#[derive(Clone, Copy)]
+#[derive(Clone, Copy, Debug, PartialEq, Eq)]
 pub struct Generator {
     pub degree: u32,
     pub terms: u16,

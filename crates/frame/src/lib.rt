@@ -3,7 +3,7 @@
 //! Main promise: each block is the one that the definition `frame_block` gives, and what is put together is taken apart unchanged.
 #![tactic(auto)]
 
-ghost use Rattle.std.specs.Prelude.{◌≡◌, ◌+◌, ◌*◌, ◌≤◌, [], ◌∷◌, ◌++◌, length, take, drop};
+ghost use Rattle.std.specs.Prelude.{◌≡◌, ◌+◌, ◌*◌, ◌≤◌, ◌∷◌, ◌++◌, length, take, drop};
 ghost use Rattle.frame.specs.Frames.{FrameRestored, Shaped, carried_by, frame_block, frame_of, stored};
 ghost use Rattle.frame.specs.SlotStarts.{SlotStarts, SlotsBeginThere, slot_start};
 ghost use Rattle.payload.specs.Bits.{splice};
@@ -18,11 +18,11 @@ use place::FramePlace;
 /// The seven bytes that open data block 1.
 pub type OverheadBytes = [u8; 7];
 
-// Here and in `store_block` the place's number says by itself which block it is: an enum of the four kinds would say it a second time.
 /// The block at a place of the frame with this overhead and payload.
 pub fn block_at(overhead: &OverheadBytes, payload: &Payload, place: FramePlace) -> Block
     ensures { result ≡ frame_block (overhead.now ++ payload.now) place }
 {
+    // Here and in `store_block` the number says by itself which block it is: an enum of the four kinds would say it a second time.
     match place.number() {
         1 => Block::start(),
         2 => first_data(overhead, payload),

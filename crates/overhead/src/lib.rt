@@ -13,7 +13,7 @@ use crc::Generator;
 use numbers::{ClientNumber, FrameNumber};
 
 /// What a frame's overhead says: the client to which the slot of this frame number belongs, if any.
-#[derive(Clone, Copy)]
+#[derive(Clone, Copy, Debug, PartialEq, Eq)]
 pub struct Overhead {
     pub announced: Option<ClientNumber>,
     pub frame: FrameNumber,

@@ -3,7 +3,7 @@
 //! Main promise: a slot's pair is read from and written to exactly its bits, and packing and unpacking undo each other.
 #![tactic(auto)]
 
-ghost use Rattle.std.specs.Prelude.{◌≡◌, ◌+◌, ◌-◌, ◌*◌, ◌<◌, ◌≤◌, ◌⊎◌, ◌++◌, length, take, drop, slice_index, slice_set};
+ghost use Rattle.std.specs.Prelude.{◌≡◌, ◌+◌, ◌-◌, ◌*◌, ◌<◌, ◌≤◌, ◌⊎◌, ◌++◌, length, take, drop, slice_set};
 ghost use Rattle.block.specs.Whole.{Bytes, Whole};
 ghost use Rattle.payload.specs.Bits.{BitsAreNumbered, bits, low, splice};
 ghost use Rattle.payload.specs.Pairs.{block_bits, pair_bits, WholePair};
