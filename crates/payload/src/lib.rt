@@ -8,11 +8,14 @@ ghost use Rattle.block.specs.Whole.{Bytes, Whole};
 ghost use Rattle.payload.specs.Bits.{BitsAreNumbered, bits, low, splice};
 ghost use Rattle.payload.specs.Pairs.{block_bits, pair_bits, WholePair};
 ghost use Rattle.payload.specs.Payloads.{pair_at, pairs_of, payload_of, slot_bit, slot_bits};
-ghost use Rattle.payload.specs.Places.{place_bit, place_byte};
+ghost use Rattle.payload.specs.Places.{place_bit};
 ghost use Rattle.std.specs.List.{flat_map};
+
+mod slot_place;
 
 use block::{Block, Sync};
 use numbers::SlotNumber;
+use slot_place::{Place, Start};
 
 /// The bytes of a frame that the slots share.
 pub type Payload = [u8; 7920];
@@ -54,14 +57,14 @@ fn word_at(payload: &Payload, at: usize) -> u64
     word(&<[u8; 8]>::try_from(&payload[at..at + 8]).unwrap())
 }
 
-// The pair that begins at the lowest bit of byte `at`.
+// The pair that begins at the lowest bit of a byte.
 // Low and high places have a function each, for reading and for writing, since the two words are cut at other bits. One reader over
 // the shift, by u128, takes 1.07 times as long, and one writer, which reads the bytes that it shares, seven times.
-fn read_low(payload: &Payload, at: usize) -> Pair
-    requires { at + 17 ≤ 7920 }
-    ensures sent { pair_bits result ≡ take 132 (drop (8 * at) (bits payload.now)) }
+fn read_low(payload: &Payload, start: Start) -> Pair
+    ensures sent { pair_bits result ≡ take 132 (drop (8 * start.byte) (bits payload.now)) }
     ensures whole { WholePair result }
 {
+    let at = start.byte;
     let low = word_at(payload, at);
     let high = word_at(payload, at + 8);
     let last = payload[at + 16] as u64;
@@ -71,13 +74,13 @@ fn read_low(payload: &Payload, at: usize) -> Pair
     }
 }
 
-// The pair that begins at bit 4 of byte `at`.
+// The pair that begins at bit 4 of a byte.
 #[tactic(auto, using(crate::proofs::Reading::high_pair, crate::proofs::Laws::half_high))]
-fn read_high(payload: &Payload, at: usize) -> Pair
-    requires { at + 17 ≤ 7920 }
-    ensures sent { pair_bits result ≡ take 132 (drop (8 * at + 4) (bits payload.now)) }
+fn read_high(payload: &Payload, start: Start) -> Pair
+    ensures sent { pair_bits result ≡ take 132 (drop (8 * start.byte + 4) (bits payload.now)) }
     ensures whole { WholePair result }
 {
+    let at = start.byte;
     let first = payload[at];
     let low = word_at(payload, at + 1);
     let high = word_at(payload, at + 9);
@@ -107,12 +110,12 @@ fn put_half<const FROM: u32>(payload: &mut Payload, at: usize, half: u8)
     payload[at] = payload[at] & 0xf0 >> FROM | half << FROM;
 }
 
-// Writes the pair from the lowest bit of byte `at` on.
-fn write_low(payload: &mut Payload, at: usize, pair: Pair)
-    requires { at + 17 ≤ 7920 }
-    ensures sent { bits payload.new ≡ splice (8 * at) (pair_bits pair) (bits payload.old) }
+// Writes the pair from the lowest bit of a byte on.
+fn write_low(payload: &mut Payload, start: Start, pair: Pair)
+    ensures sent { bits payload.new ≡ splice (8 * start.byte) (pair_bits pair) (bits payload.old) }
     ensures whole { WholePair pair }
 {
+    let at = start.byte;
     let first = word(&pair.first.bytes);
     let second = word(&pair.second.bytes);
     let sync = pair.second.sync.bits() as u64;
@@ -121,13 +124,13 @@ fn write_low(payload: &mut Payload, at: usize, pair: Pair)
     put_half::<0>(payload, at + 16, (second >> 60) as u8);
 }
 
-// Writes the pair from bit 4 of byte `at` on.
+// Writes the pair from bit 4 of a byte on.
 #[tactic(auto, using(crate::proofs::Writing::high_nibble, crate::proofs::Writing::sync_small))]
-fn write_high(payload: &mut Payload, at: usize, pair: Pair)
-    requires { at + 17 ≤ 7920 }
-    ensures sent { bits payload.new ≡ splice (8 * at + 4) (pair_bits pair) (bits payload.old) }
+fn write_high(payload: &mut Payload, start: Start, pair: Pair)
+    ensures sent { bits payload.new ≡ splice (8 * start.byte + 4) (pair_bits pair) (bits payload.old) }
     ensures whole { WholePair pair }
 {
+    let at = start.byte;
     let first = word(&pair.first.bytes);
     let second = word(&pair.second.bytes);
     let sync = pair.second.sync.bits() as u64;
@@ -140,50 +143,25 @@ fn write_high(payload: &mut Payload, at: usize, pair: Pair)
     put_word(payload, at + 9, second);
 }
 
-// Where a slot begins: at the low or at the high half of a byte of the payload.
-#[derive(Clone, Copy)]
-enum Place {
-    Low(usize),
-    High(usize),
-}
-
-impl Place {
-    // The place of the slot with this index, which is the slot's number less one.
-    fn of_slot(index: usize) -> Place
-        requires { index < 480 }
-        ensures bit { place_bit result ≡ 132 * index }
-        ensures within { place_byte result + 17 ≤ 7920 }
-    {
-        let byte = index / 2 * 33;
-        if index % 2 == 0 {
-            Place::Low(byte)
-        } else {
-            Place::High(byte + 16)
-        }
-    }
-}
-
 // The pair at a place.
 fn read_at(payload: &Payload, place: Place) -> Pair
-    requires { place_byte place + 17 ≤ 7920 }
     ensures sent { pair_bits result ≡ take 132 (drop (place_bit place) (bits payload.now)) }
     ensures whole { WholePair result }
 {
     match place {
-        Place::Low(at) => read_low(payload, at),
-        Place::High(at) => read_high(payload, at),
+        Place::Low(start) => read_low(payload, start),
+        Place::High(start) => read_high(payload, start),
     }
 }
 
 // Writes the pair at a place, and changes no other bit.
 fn write_at(payload: &mut Payload, place: Place, pair: Pair)
-    requires { place_byte place + 17 ≤ 7920 }
     ensures sent { bits payload.new ≡ splice (place_bit place) (pair_bits pair) (bits payload.old) }
     ensures whole { WholePair pair }
 {
     match place {
-        Place::Low(at) => write_low(payload, at, pair),
-        Place::High(at) => write_high(payload, at, pair),
+        Place::Low(start) => write_low(payload, start, pair),
+        Place::High(start) => write_high(payload, start, pair),
     }
 }
 
@@ -192,8 +170,8 @@ pub fn slot_bit(slot: SlotNumber) -> usize
     ensures { result ≡ slot_bit slot }
 {
     match Place::of_slot(slot.index()) {
-        Place::Low(at) => 8 * at,
-        Place::High(at) => 8 * at + 4,
+        Place::Low(start) => 8 * start.byte,
+        Place::High(start) => 8 * start.byte + 4,
     }
 }
 

@@ -10,9 +10,9 @@ returns-clause-sent c =
     let t : ℕ = c.bits-sync.result in
     let v : ℕ = c.word-first.result in
     let w : ℕ = c.word-second.result in
-    high_write s v t w c.args.at (bits c.args.payload.now) _ _ _
+    high_write s v t w c.args.start.byte (bits c.args.payload.now) _ _ _
     (sync_small c.args.pair.first.sync s c.bits.ensures.number) c.word-first.type_inv
     (sync_small c.args.pair.second.sync t c.bits-sync.ensures.number) c.word-second.type_inv
     (omega (arith, length_bits c.args.payload.now)) c.put_half.ensures c.put_word.ensures c.put_word-2.ensures
-    ∙ ap (λ (l : List ℕ). splice (8 * c.args.at + 4) l (bits c.args.payload.now))
+    ∙ ap (λ (l : List ℕ). splice (8 * c.args.start.byte + 4) l (bits c.args.payload.now))
     (pair_sent c.args.pair s v t w c.bits.ensures.number c.word-first.ensures.value c.bits-sync.ensures.number c.word-second.ensures.value)
