@@ -15,6 +15,8 @@ use numbers::SlotNumber;
 use payload::{Payload, slot_bit};
 use place::FramePlace;
 
+// Overhead and payload stay two parameters of all that follows: a payload is packed where it lies, in lent memory, and each frame's
+// overhead is written apart from it.
 /// The seven bytes that open data block 1.
 pub type OverheadBytes = [u8; 7];
 
