@@ -1,9 +1,10 @@
-// Measures packing and unpacking: ten thousand payloads each way, each a little other than the one before.
-// Standard output has the number of blocks moved and a checksum, standard error the nanoseconds a block took.
-// Main promise: the blocks counted are those that were packed and unpacked, and the payload summed up is that of the pairs.
+//! Measures packing and unpacking: ten thousand payloads each way, each a little other than the one before.
+//! Standard output has the number of blocks moved and a checksum, standard error the time a block took, in hundredths of a nanosecond.
+//! Main promise: the blocks counted are those that were packed and unpacked, and the payload summed up is that of the pairs.
 #![tactic(auto)]
 
 ghost use Rattle.std.specs.Prelude.{◌≡◌, ◌*◌, fold};
+ghost use Rattle.bench.specs.Filled.{block_of, next, pairs_from};
 ghost use Rattle.bench.specs.Sums.{summed};
 ghost use Rattle.payload.specs.Payloads.{pairs_of, payload_of};
 
@@ -15,13 +16,21 @@ use std::time::{Duration, Instant};
 // The payloads packed, and the payloads unpacked.
 const ROUNDS: usize = 10_000;
 
-fn next(x: u64) -> u64 {
+// The next of a sequence of numbers of many bits (xorshift).
+#[tactic(auto, unfolding(crate::specs::Filled::next))]
+fn next(x: u64) -> u64
+    ensures { result ≡ next x }
+{
     let a = x ^ x << 13;
     let b = a ^ a >> 7;
     b ^ b << 17
 }
 
-fn block(x: u64) -> Block {
+// A block of a number's bits.
+#[tactic(auto, using(crate::proofs::Filling::sync_is), unfolding(crate::specs::Filled::block_of))]
+fn block(x: u64) -> Block
+    ensures { result ≡ block_of x }
+{
     Block {
         sync: Sync::from_bits((x >> 3 & 3) as u8),
         bytes: x.to_le_bytes(),
@@ -29,20 +38,22 @@ fn block(x: u64) -> Block {
 }
 
 // Pairs of many bits, the same at each run.
-fn fill(pairs: &mut [Pair; 480]) {
-    let mut x = 88172645463325252u64;
+fn fill(pairs: &mut [Pair; 480])
+    ensures { pairs.new ≡ pairs_from 88172645463325252 480 }
+{
+    let mut x = 88172645463325252;
     for pair in pairs.iter_mut() {
-        x = next(x);
-        let first = block(x);
-        x = next(x);
+        let first = next(x);
+        x = next(first);
         *pair = Pair {
-            first,
+            first: block(first),
             second: block(x),
         };
     }
 }
 
 // Packs again and again, and answers the number of blocks moved.
+// This and `unpack_rounds` are two: one function over a closure would say nothing of the buffers that the closure holds.
 fn pack_rounds(pairs: &mut [Pair; 480], payload: &mut Payload) -> u64
     ensures moved { result ≡ 9600000 }
     ensures packed { payload.new ≡ payload_of pairs.new }
@@ -72,14 +83,14 @@ fn unpack_rounds(payload: &mut Payload, pairs: &mut [Pair; 480]) -> u64
     moved
 }
 
+// A checksum of the payload, begun with another.
 fn checksum(start: u64, payload: &Payload) -> u64
     ensures { result ≡ fold summed start payload.now }
 {
-    let mut sum = start;
-    for b in payload {
-        sum = sum.wrapping_mul(31).wrapping_add(*b as u64);
-    }
-    sum
+    payload.iter().fold(
+        start,
+        |sum, b| sum.wrapping_mul(31).wrapping_add(u64::from(*b)),
+    )
 }
 
 // Hundredths of a nanosecond for each of the blocks of one direction.

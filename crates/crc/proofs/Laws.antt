@@ -37,7 +37,7 @@ below_two zero h = inl refl
 below_two (suc zero) h = inr refl
 below_two (suc (suc x)) h = absurd (omega arith)
 
-digit : (n : ℕ) → (n % 2 ≡ 0) ⊎ (n % 2 ≡ 1)
+pub digit : (n : ℕ) → (n % 2 ≡ 0) ⊎ (n % 2 ≡ 1)
 digit n = below_two (n % 2) (omega arith)
 
 digit_mul' : (x y G : ℕ) → x < 2 → y < 2 → bit_xor x y * G ≡ bit_xor (x * G) (y * G)
@@ -211,15 +211,6 @@ shift_zero w G r hw hG h =
     omega (arith, e, h, xor_zero_r (r * 2))
 
 -- bits that bring the register to 0, at most w of them, are the register's own upper bits
-times_shl : (bs : List Bool) (G k : ℕ) → times bs G * 2 ^ k ≡ times bs (G * 2 ^ k)
-times_shl [] G k = zero-mul (2 ^ k)
-times_shl (b ∷ bs) G k =
-    xor_shl (scale b (G * 2 ^ length bs)) (times bs G) k ∙ ap₂ bit_xor (go b) (times_shl bs G k)
-  where
-    go : (b : Bool) → scale b (G * 2 ^ length bs) * 2 ^ k ≡ scale b (G * 2 ^ k * 2 ^ length bs)
-    go true = mul_assoc G (2 ^ length bs) (2 ^ k) ∙ ap (λ (x : ℕ). G * x) (mul_comm (2 ^ length bs) (2 ^ k)) ∙ sym (mul_assoc G (2 ^ k) (2 ^ length bs))
-    go false = zero-mul (2 ^ k)
-
 pub back : (w G : ℕ) (bs : List Bool) (j r : ℕ) → G % 2 ≡ 1 → j + length bs ≡ w → run w G r bs ≡ 0 → r ≡ value bs * 2 ^ j
 back w G [] j r hG h e = e ∙ sym (zero-mul (2 ^ j))
 back w G (b ∷ bs) j r hG h e =

@@ -3,6 +3,7 @@ use Rattle.std.proofs.Common.{◌≡◌, ℕ, zero, suc, ◌+◌, ◌-◌, ◌*�
 use Rattle.std.proofs.lemmas.List.{length-append, get_or_append_left, get_or-append-add, drop_more, length-drop, take_all, take_at, drop_at, length-take-le, take-append-drop, nil_from_length}
 use Rattle.std.proofs.lemmas.Bool.{cases_lt}
 use Rattle.crc.specs.Bits.{odd, low_first, bits, field, low_value, packed, Numbered}
+use Rattle.crc.proofs.Laws.{digit}
 
 pub length_low : (k n : ℕ) → length (low_first k n) ≡ k
 unfolding low_first
@@ -36,9 +37,6 @@ bit_place (b ∷ bs) (suc q) r h l =
     ∙ bit_place bs q r (omega arith) l
 
 -- ---- bits and the number that they write, the lowest first
-below_two : (n : ℕ) → (n % 2 ≡ 0) ⊎ (n % 2 ≡ 1)
-below_two n = ⊎_elim (λ (k : n % 2 < 1). inl (omega arith)) (λ (k : 1 ≤ n % 2). inr (omega arith)) (cases_lt (n % 2) 1)
-
 pub low_value_is : (bs : List Bool) → low_first (length bs) (low_value bs) ≡ bs
 unfolding low_first
 low_value_is [] = refl
@@ -59,7 +57,7 @@ value_low (suc k) n h =
     ⊎_elim
     (λ (e : n % 2 ≡ 0). ap (λ (x : ℕ). low_value (eqb x 1 ∷ low_first k (n / 2))) e ∙ omega (arith, rest))
     (λ (e : n % 2 ≡ 1). ap (λ (x : ℕ). low_value (eqb x 1 ∷ low_first k (n / 2))) e ∙ omega (arith, rest))
-    (below_two n)
+    (digit n)
 
 packs : (bytes : List ℕ) → ((i : ℕ) → i < length bytes → get_or bytes i 0 < 256) → packed (length bytes) (bits bytes) ≡ bytes
 unfolding bits packed

@@ -2,6 +2,7 @@
 use Rattle.std.proofs.Common.{◌≡◌, ℕ, ◌+◌, ◌*◌, ◌/◌, ◌%◌, ◌^◌, ◌<◌, Bool, true, false, eqb, sym, ap, ◌∙◌, ap₂, mod-eq_of_lt, one-mul, zero-mul, arith, pow_pos, pow_mono, shr_lt}
 use Rattle.std.proofs.lemmas.Nat.{one_shl, and_mask, xor_lt}
 use Rattle.std.specs.Int.Bits.{bit_and, bit_xor, xor_zero_r}
+use mir.Val.{bool_byte}
 use Rattle.crc.specs.Bits.{odd}
 use Rattle.crc.specs.Remainder.{scale, reduce, step}
 use Rattle.crc.proofs.Laws.{pow_more}
@@ -38,11 +39,10 @@ code_else w G r high b hw h e q =
     no_one : (x : ℕ) → x < 2 → (x ≡ 1 → ⊥) → x ≡ 0
     no_one x h k = omega arith
 
-pub high_then : (w h : ℕ) (b : Bool) → w < 16 → b ≡ true → h ≡ (1 * 2 ^ w) % 65536 → h ≡ scale b (2 ^ w)
-high_then w h b hw e k = k ∙ one_shl w 16 hw ∙ sym (ap (λ (x : Bool). scale x (2 ^ w)) e)
-
-pub high_else : (w h : ℕ) (b : Bool) → b ≡ false → h ≡ 0 → h ≡ scale b (2 ^ w)
-high_else w h b e k = k ∙ sym (ap (λ (x : Bool). scale x (2 ^ w)) e)
+-- a bit set to the place of the digit
+pub placed : (w : ℕ) (b : Bool) → w < 16 → (bool_byte b * 2 ^ w) % 65536 ≡ scale b (2 ^ w)
+placed w true h = one_shl w 16 h
+placed w false h = simp zero-mul
 
 -- the code's bit
 pub code_bit : (n : ℕ) → eqb (bit_and n 1) 1 ≡ odd n

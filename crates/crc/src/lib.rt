@@ -1,6 +1,6 @@
-// Cyclic remainders (CRC) over a field of bits, once for every degree and generator; those of degree 7 and 12 are made here.
-// Main promise: `remainder` is the remainder that the division of the field by the generator over GF(2) leaves (`laws_hold`),
-// and between words that leave 0 no change of one, two or three bits goes unseen (`degree_seven`, `degree_twelve`).
+//! Cyclic remainders (CRC) over a field of bits, once for every degree and generator; those of degree 7 and 12 are made here.
+//! Main promise: `remainder` is the remainder that the division of the field by the generator over GF(2) leaves (`laws_hold`),
+//! and between words that leave 0 no change of one, two or three bits goes unseen (`degree_seven`, `degree_twelve`).
 #![tactic(auto)]
 
 ghost use Rattle.std.specs.Prelude.{◌≡◌, ℕ, ◌/◌, ◌^◌, ◌<◌};
@@ -8,17 +8,18 @@ ghost use Rattle.crc.specs.Bits.{field, Numbered};
 ghost use Rattle.crc.specs.Laws.{Detecting, Detects, Known, Laws};
 ghost use Rattle.crc.specs.Remainder.{remainder as rest, step};
 
-// A generator by its terms: the digit of weight 2^k is the coefficient of x^k, and the highest is that of x^degree.
-#[derive(Clone, Copy)]
+/// A generator by its terms: the digit of weight 2^k is the coefficient of x^k, and the highest is that of x^degree.
+#[derive(Clone, Copy, Debug, PartialEq, Eq)]
 pub struct Generator {
-    degree: u32,
-    terms: u16,
+    pub degree: u32,
+    pub terms: u16,
     ghost fits: { degree < 16 },
     ghost highest: { terms / 2 ^ degree ≡ 1 },
 }
 
 impl Generator {
-    // x^7 + x^5 + x^4 + x^2 + x + 1
+    // Two functions, not one over constants: the order of x, which `detects` rests on, is computed for each generator.
+    /// x^7 + x^5 + x^4 + x^2 + x + 1: the CRC-7 of the frame overhead (ITU-T G.8312).
     pub fn degree_seven() -> Generator
         ensures degree { result.degree ≡ 7 }
         ensures terms { result.terms ≡ 0xB7 }
@@ -30,7 +31,7 @@ impl Generator {
         }
     }
 
-    // x^12 + x^11 + x^3 + x^2 + x + 1
+    /// x^12 + x^11 + x^3 + x^2 + x + 1: the CRC-12 of the path's maintenance messages (ITU-T G.8312, clause 9.3).
     pub fn degree_twelve() -> Generator
         ensures degree { result.degree ≡ 12 }
         ensures terms { result.terms ≡ 0x180F }
@@ -42,13 +43,15 @@ impl Generator {
         }
     }
 
-    // The remainder of the field from bit `from` up to bit `to`, without it, of bytes in the order of sending.
+    /// The remainder of the field from bit `from` up to bit `to`, without it, of bytes in the order of sending: byte by byte, the
+    /// lowest bit of a byte first. What lies behind the last byte is no part of the field, and an empty field leaves 0.
     pub fn remainder(&self, bytes: &[u8], from: usize, to: usize) -> u16
         ensures value { result ≡ rest self.now.degree self.now.terms (field bytes.now from to) }
         ensures below { result < 2 ^ self.now.degree }
     {
         let end = to.min(bytes.len().saturating_mul(8));
         let mut register = 0;
+        // `i` numbers bits, which no slice holds: a chain over bytes would have to skip bits within the first and the last byte.
         for i in from..end {
             let bit = (bytes[i / 8] >> (i % 8)) & 1 == 1;
             register = self.advance(register, bit);
@@ -62,7 +65,7 @@ impl Generator {
         ensures below { result < 2 ^ self.now.degree }
         ensures value { result ≡ step self.now.degree self.now.terms register bit }
     {
-        let high = if bit { 1 << self.degree } else { 0 };
+        let high = u16::from(bit) << self.degree;
         let sum = (register << 1) ^ high;
         if sum >> self.degree == 1 {
             sum ^ self.terms
@@ -72,27 +75,23 @@ impl Generator {
     }
 }
 
-// The remainder is that of the division, and its laws, for every generator.
-pub fn laws_hold() -> u8
+/// The remainder is that of the division, and its laws, for every generator.
+#[tactic(auto, using(crate::proofs::Division::laws, crate::proofs::Generators::known))]
+pub fn laws_hold()
     ensures laws { (w G : ℕ) → G / 2 ^ w ≡ 1 → Laws w G }
     ensures known { Known }
-{
-    0
-}
+{}
 
-// Which changes no word hides, for every generator with an even number of terms and constant term 1.
-pub fn detection_holds() -> u8
+/// Which changes no word hides, for every generator with an even number of terms and constant term 1.
+pub fn detection_holds()
     ensures { (w G n : ℕ) → Detecting w G n → Detects w G n }
-{
-    0
-}
+{}
 
-// How the bits of bytes are numbered.
-pub fn numbering_holds() -> u8
+/// How the bits of bytes are numbered.
+#[tactic(auto, using(crate::proofs::Places::numbered))]
+pub fn numbering_holds()
     ensures { Numbered }
-{
-    0
-}
+{}
 
 #[cfg(test)]
 mod tests {

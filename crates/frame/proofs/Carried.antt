@@ -2,7 +2,7 @@
 use Rattle.std.proofs.Common.{◌≡◌, ℕ, ◌+◌, ◌-◌, ◌*◌, eqb, List, [], ◌∷◌, ◌++◌, map, length, get_or, take, drop, sym, refl, ap, ◌∙◌, arith, length-drop}
 use Rattle.std.specs.List.{range_with_len}
 use Rattle.std.proofs.lemmas.List.FromFn.{fill_by_all}
-use Rattle.std.proofs.lemmas.List.{drop_at, drop-drop, drop_more, get_or-drop}
+use Rattle.std.proofs.lemmas.List.{append-nil, drop_at, drop-drop, drop_more, get_or-drop, take_all}
 use Rattle.std.proofs.lemmas.Bool.{cond-false, ne_eqb}
 use Rattle.block.specs.declared.Block.{Block}
 use Rattle.block.specs.declared.Sync.TheVariants.{Zeros, Control, Data}
@@ -18,6 +18,10 @@ pub opening : (o p : List ℕ) → length o ≡ 7 → length p ≡ 7920 →
     get_or o 0 0 ∷ get_or o 1 0 ∷ get_or o 2 0 ∷ get_or o 3 0 ∷ get_or o 4 0 ∷ get_or o 5 0 ∷ get_or o 6 0 ∷ get_or p 0 0 ∷ [] ≡ take 8 (o ++ p)
 opening o p h k = sym (ap (λ (l : List ℕ). take 8 (l ++ p)) (listed o 0 7 (sym h))
     ∙ ap (λ (l : List ℕ). take 8 (map (λ i. get_or o (0 + i) 0) (range_with_len 0 7) ++ l)) (drop_more p 0 0 (omega arith)))
+
+-- a list's last seven entries, as the code has them
+pub last_seven : (p ys : List ℕ) → length p ≡ 7920 → ys ≡ take 7 (drop 7913 p) → ys ++ [] ≡ drop 7913 p
+last_seven p ys h e = append-nil ys ∙ e ∙ take_all 7 (drop 7913 p) (omega (arith, length-drop 7913 p))
 
 -- what lies past the overhead
 pub past : (o p : List ℕ) (k m : ℕ) → length o ≡ 7 → k ≡ 7 + m → drop k (o ++ p) ≡ drop m p

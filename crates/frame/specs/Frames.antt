@@ -1,5 +1,5 @@
 -- A frame carries seven overhead bytes and 7,920 payload bytes, one after the other, in its data blocks and its end block.
-use Rattle.std.specs.Prelude.{◌≡◌, ℕ, ◌+◌, ◌-◌, ◌*◌, ◌≤◌, cond, List, [], ◌∷◌, ◌++◌, map, length, take, drop, ◌==◌, slice_index_or}
+use Rattle.std.specs.Prelude.{◌≡◌, ℕ, ◌+◌, ◌-◌, ◌*◌, ◌≤◌, if◌then◌else◌, List, [], ◌∷◌, ◌++◌, map, length, take, drop, ◌==◌, slice_index_or}
 use Rattle.std.specs.List.{range_with_len, flat_map}
 use Rattle.block.specs.declared.Block.{Block}
 use Rattle.block.specs.declared.Sync.TheVariants.{Control, Data}
@@ -11,9 +11,9 @@ use Rattle.payload.specs.Bits.{splice}
 -- the block at a place of the frame that carries these bytes: data blocks take eight each, the end block the last seven
 abbrev pub frame_block : List ℕ → ℕ → Block
 frame_block carried n =
-    cond (n == 1) start_block
-    (cond (n == 992) (record { sync = Control; bytes = 0xFF ∷ drop 7920 carried })
-    (record { sync = Data; bytes = take 8 (drop (8 * (n - 2)) carried) }))
+    if n == 1 then start_block
+    else if n == 992 then record { sync = Control; bytes = 0xFF ∷ drop 7920 carried }
+    else record { sync = Data; bytes = take 8 (drop (8 * (n - 2)) carried) }
 
 -- the 992 blocks of that frame
 unfoldable pub frame_of : List ℕ → List Block
@@ -26,8 +26,9 @@ carried_by blocks = flat_map (λ (b : Block). b.bytes) (take 990 (drop 1 blocks)
 -- the carried bytes, with those of the block at a place stored
 abbrev pub stored : ℕ → List ℕ → List ℕ → List ℕ
 stored n bytes carried =
-    cond (n == 1) carried
-    (cond (n == 992) (splice 7920 (drop 1 bytes) carried) (splice (8 * (n - 2)) bytes carried))
+    if n == 1 then carried
+    else if n == 992 then splice 7920 (drop 1 bytes) carried
+    else splice (8 * (n - 2)) bytes carried
 
 -- the carried bytes, with those of all blocks from a place on stored one after the other
 abbrev pub stored_from : ℕ → List Block → List ℕ → List ℕ

@@ -1,9 +1,9 @@
-// Frames: a start block, 990 data blocks and an end block, which carry seven overhead bytes and the payload.
-// Blocks are made and stored one at a time, straight from and into overhead and payload, so no frame is copied.
-// Main promise: each block is the one that the definition `frame_block` gives, and what is put together is taken apart unchanged.
+//! Frames (ITU-T G.8312, Annex A): a start block, 990 data blocks and an end block, which carry seven overhead bytes and the payload.
+//! Blocks are made and stored one at a time, straight from and into overhead and payload, so no frame is copied.
+//! Main promise: each block is the one that the definition `frame_block` gives, and what is put together is taken apart unchanged.
 #![tactic(auto)]
 
-ghost use Rattle.std.specs.Prelude.{◌≡◌, ◌+◌, ◌*◌, ◌≤◌, [], ◌∷◌, ◌++◌, length, take, drop};
+ghost use Rattle.std.specs.Prelude.{◌≡◌, ◌+◌, ◌*◌, ◌≤◌, ◌∷◌, ◌++◌, length, take, drop};
 ghost use Rattle.frame.specs.Frames.{FrameRestored, Shaped, carried_by, frame_block, frame_of, stored};
 ghost use Rattle.frame.specs.SlotStarts.{SlotStarts, SlotsBeginThere, slot_start};
 ghost use Rattle.payload.specs.Bits.{splice};
@@ -15,13 +15,16 @@ use numbers::SlotNumber;
 use payload::{Payload, slot_bit};
 use place::FramePlace;
 
-// The seven bytes that open data block 1.
+// Overhead and payload stay two parameters of all that follows: a payload is packed where it lies, in lent memory, and each frame's
+// overhead is written apart from it.
+/// The seven bytes that open data block 1.
 pub type OverheadBytes = [u8; 7];
 
-// The block at a place of the frame with this overhead and payload.
+/// The block at a place of the frame with this overhead and payload.
 pub fn block_at(overhead: &OverheadBytes, payload: &Payload, place: FramePlace) -> Block
     ensures { result ≡ frame_block (overhead.now ++ payload.now) place }
 {
+    // Here and in `store_block` the number says by itself which block it is: an enum of the four kinds would say it a second time.
     match place.number() {
         1 => Block::start(),
         2 => first_data(overhead, payload),
@@ -30,7 +33,7 @@ pub fn block_at(overhead: &OverheadBytes, payload: &Payload, place: FramePlace) 
     }
 }
 
-// Where in a frame a slot begins: the number of the data block, the byte in it and the bit in that.
+/// Where in a frame a slot begins: the number of the data block, from 1, the byte in it and the bit in that, both from 0.
 #[derive(Clone, Copy, Debug, PartialEq, Eq)]
 pub struct SlotStart {
     pub block: u16,
@@ -38,6 +41,8 @@ pub struct SlotStart {
     pub bit: u8,
 }
 
+/// Where a slot begins.
+#[tactic(auto, using(crate::proofs::Starts::slots_begin_there))]
 pub fn slot_start(slot: SlotNumber) -> SlotStart
     ensures made { result ≡ slot_start slot }
     ensures values { SlotStarts }
@@ -53,6 +58,7 @@ pub fn slot_start(slot: SlotNumber) -> SlotStart
 }
 
 // Data block 1: the overhead and the first byte of the payload.
+#[tactic(auto, using(crate::proofs::Carried::opening))]
 fn first_data(overhead: &OverheadBytes, payload: &Payload) -> Block
     ensures { result ≡ frame_block (overhead.now ++ payload.now) 2 }
 {
@@ -69,44 +75,28 @@ fn data(payload: &Payload, at: usize) -> Block
     ensures kind { result.sync ≡ Sync.Data }
     ensures taken { result.bytes ≡ take 8 (drop at payload.now) }
 {
-    let bytes = [
-        payload[at],
-        payload[at + 1],
-        payload[at + 2],
-        payload[at + 3],
-        payload[at + 4],
-        payload[at + 5],
-        payload[at + 6],
-        payload[at + 7],
-    ];
     Block {
         sync: Sync::Data,
-        bytes,
+        bytes: <[u8; 8]>::try_from(&payload[at..at + 8]).unwrap(),
     }
 }
 
 // The end block, with the last seven bytes of the payload.
+#[tactic(auto, using(crate::proofs::Carried::last_seven))]
 fn end(payload: &Payload) -> Block
     ensures kind { result.sync ≡ Sync.Control }
     ensures taken { result.bytes ≡ 0xFF ∷ drop 7913 payload.now }
 {
-    let bytes = [
-        0xFF,
-        payload[7913],
-        payload[7914],
-        payload[7915],
-        payload[7916],
-        payload[7917],
-        payload[7918],
-        payload[7919],
-    ];
+    let mut bytes = [0xFF; 8];
+    bytes[1..8].copy_from_slice(&payload[7913..7920]);
     Block {
         sync: Sync::Control,
         bytes,
     }
 }
 
-// Stores what the block at a place carries, and leaves all other bytes; a start block carries nothing.
+/// Stores what the block at a place carries, and leaves all other bytes; a start block carries nothing.
+#[tactic(auto, using(crate::proofs::Frames::frame_restored, crate::proofs::Storing::past_stored, crate::proofs::Storing::stored_data))]
 pub fn store_block(
     block: &Block,
     place: FramePlace,
@@ -125,27 +115,28 @@ pub fn store_block(
     }
 }
 
-// Writes the 992 blocks of the frame with this overhead and payload.
+/// Writes the 992 blocks of the frame with this overhead and payload.
 pub fn assemble(overhead: &OverheadBytes, payload: &Payload, blocks: &mut [Block; 992])
     ensures made { blocks.new ≡ frame_of (overhead.now ++ payload.now) }
     ensures shaped { Shaped blocks.new }
     ensures undone { carried_by blocks.new ≡ overhead.now ++ payload.now }
 {
-    for i in 0..992usize {
-        blocks[i] = block_at(overhead, payload, FramePlace::of_index(i));
+    for (i, block) in blocks.iter_mut().enumerate() {
+        *block = block_at(overhead, payload, FramePlace::of_index(i));
     }
 }
 
-// Reads overhead and payload from the 992 blocks of a frame.
+/// Reads overhead and payload from the 992 blocks of a frame, whatever their sync bits and types.
 pub fn take_apart(blocks: &[Block; 992], overhead: &mut OverheadBytes, payload: &mut Payload)
     ensures { overhead.new ++ payload.new ≡ carried_by blocks.now }
 {
-    for i in 0..992usize {
-        store_block(&blocks[i], FramePlace::of_index(i), overhead, payload);
+    for (i, block) in blocks.iter().enumerate() {
+        store_block(block, FramePlace::of_index(i), overhead, payload);
     }
 }
 
 // Stores the bytes of data block 1.
+#[tactic(auto, using(crate::proofs::Storing::first_stored))]
 fn store_first(bytes: &[u8; 8], overhead: &mut OverheadBytes, payload: &mut Payload)
     ensures { overhead.new ++ payload.new ≡ splice 0 bytes.now (overhead.old ++ payload.old) }
 {
@@ -154,6 +145,7 @@ fn store_first(bytes: &[u8; 8], overhead: &mut OverheadBytes, payload: &mut Payl
 }
 
 // Stores bytes in the payload, from byte `at` on.
+#[tactic(auto, using(crate::proofs::Storing::part_stored))]
 fn store(bytes: &[u8], payload: &mut Payload, at: usize)
     requires { at + length bytes.now ≤ 7920 }
     ensures { payload.new ≡ splice at bytes.now payload.old }
@@ -170,8 +162,8 @@ mod tests {
     fn blocks_of_a_frame(rt: HostRuntime) -> Result<(), Fail> {
         let overhead = [1, 2, 3, 4, 5, 6, 7];
         let mut payload = [0u8; 7920];
-        for i in 0..7920usize {
-            payload[i] = (i % 251) as u8;
+        for (i, byte) in payload.iter_mut().enumerate() {
+            *byte = (i % 251) as u8;
         }
         // 7,911 is 31 × 251 + 130
         let table = [

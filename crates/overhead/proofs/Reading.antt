@@ -1,10 +1,10 @@
 -- What is read: back again what was written, and a wrong remainder after few changes.
-use Rattle.std.proofs.Common.{◌≡◌, ℕ, ◌/◌, ◌%◌, ◌<◌, ◌≤◌, Bool, true, false, cond, ltb, leb, List, [], ◌∷◌, ◌++◌, length, get_or, take, drop, Some, None, Ok, Err, Option, Result, sym, refl, ap, ◌∙◌, ap₂, mod-eq_of_lt, arith, lit≤, pow_pos}
+use Rattle.std.proofs.Common.{◌≡◌, ℕ, ◌/◌, ◌%◌, ◌<◌, ◌≤◌, Bool, true, false, cond, ltb, List, [], ◌∷◌, ◌++◌, length, get_or, take, drop, Ok, Err, Result, sym, refl, ap, ◌∙◌, ap₂, mod-eq_of_lt, arith, lit≤, pow_pos}
 use Rattle.std.specs.Int.Bits.{bit_and}
 use Rattle.std.proofs.lemmas.Nat.{and_mask}
 use Rattle.std.specs.Int.{reverse_bits_onto}
 use Rattle.std.proofs.lemmas.List.{length-take, length-drop, take-append-drop, take-take, same_lists, places}
-use Rattle.std.proofs.lemmas.Bool.{eq-eqb, ne_eqb, le-ltb, lt-ltb, ltb-true, ltb-false}
+use Rattle.std.proofs.lemmas.Bool.{eq-eqb, ne_eqb, le-ltb}
 use Rattle.crc.specs.Bits.{low_first, high_first, bits, field}
 use Rattle.crc.specs.Laws.{value, Detects}
 use Rattle.crc.specs.Remainder.{remainder}
@@ -14,10 +14,7 @@ use Rattle.crc.proofs.Digits.{value_high}
 use Rattle.crc.proofs.Detect.{detects}
 use Rattle.crc.proofs.Generators.{seven}
 use Rattle.overhead.specs.Format.{Fields, fields_in, covered_bits, overhead_bits, remainder_of, read_word, read_bytes}
-use Rattle.numbers.specs.Range.{checked_frame}
-use Rattle.refusal.specs.declared.Refusal.{Refusal}
-use Rattle.std.proofs.lemmas.Bool.Decides.{nat_tests}
-use Rattle.overhead.specs.Entry.{read_entry}
+use Rattle.overhead.specs.Entry.{read_entry, read_frame_number}
 use Rattle.overhead.specs.Laws.{ChangesSeen}
 use Rattle.overhead.proofs.Words.{word_of, numbers_in, word_read}
 use Rattle.overhead.specs.declared.OverheadFault.{OverheadFault}
@@ -31,20 +28,6 @@ pub read_wrong : (word : List Bool) → (right word → ⊥) → read_word word 
 unfolding read_word
 read_wrong word h = simp (ne_eqb (value (drop 39 word)) (remainder_of (take 39 word)) h)
 
-pub read_client : (word : List Bool) → right word → 480 < (fields_in word).entry → read_word word ≡ Err ClientTooHigh
-unfolding read_word
-read_client word r h =
-    simp (eq-eqb (value (drop 39 word)) (remainder_of (take 39 word)) r, lt-ltb 480 (value (take 10 word)) h)
-
-pub read_frame : (word : List Bool) → right word → (fields_in word).entry ≤ 480 → 479 < (fields_in word).frame → read_word word ≡ Err FrameTooHigh
-unfolding read_word
-read_frame word r h k =
-    simp (
-      eq-eqb (value (drop 39 word)) (remainder_of (take 39 word)) r,
-      le-ltb 480 (value (take 10 word)) h,
-      lt-ltb 479 (value (take 9 (drop 10 word))) k,
-    )
-
 pub read_fields : (word : List Bool) (f : Fields) → right word → fields_in word ≡ f → f.entry ≤ 480 → f.frame ≤ 479 → read_word word ≡ Ok f
 unfolding read_word
 read_fields word f r e h k =
@@ -54,6 +37,25 @@ read_fields word f r e h k =
       ap (λ (g : Fields). ltb 479 g.frame) e ∙ le-ltb 479 f.frame k,
     )
     (ap Ok e)
+
+-- what entry and frame number are read as together, the entry first
+abbrev pub both : Result ℕ OverheadFault → Result ℕ OverheadFault → Result Fields OverheadFault
+both (Err e) b = Err e
+both (Ok n) (Err e) = Err e
+both (Ok n) (Ok m) = Ok (record { entry = n; frame = m })
+
+read_both : (word : List Bool) → right word → read_word word ≡ both (read_entry (fields_in word).entry) (read_frame_number (fields_in word).frame)
+unfolding read_word
+read_both word r =
+    simp (eq-eqb (value (drop 39 word)) (remainder_of (take 39 word)) r)
+    (go (ltb 480 (fields_in word).entry) (ltb 479 (fields_in word).frame))
+  where
+    go : (p q : Bool)
+        → ◌≡◌ {A = Result Fields OverheadFault} (cond p (Err ClientTooHigh) (cond q (Err FrameTooHigh) (Ok (fields_in word))))
+        (both (cond p (Err ClientTooHigh) (Ok (fields_in word).entry)) (cond q (Err FrameTooHigh) (Ok (fields_in word).frame)))
+    go true q = refl
+    go false true = refl
+    go false false = refl
 
 -- ---- back again
 word_written : (f : Fields) (bytes : List ℕ) → bits bytes ≡ overhead_bits f
@@ -173,30 +175,13 @@ code_numbers bytes w v rd ew ev =
       frame = rd.frame ∙ ap (λ (y : ℕ). y % 512) n ∙ sym (and_mask (v / 8) 9);
     }
 
--- past the test of the remainder: d and g are the degree and the terms of the generator
-pub code_read : (bytes : List ℕ) (d g x r w v : ℕ) → Read bytes
+-- past the test of the remainder: d and g are the degree and the terms of the generator, a and b what the two numbers are read as
+pub code_read : (bytes : List ℕ) (d g x r w v : ℕ) (a b : Result ℕ OverheadFault) → Read bytes
     → d ≡ 7 → g ≡ 0xB7 → r ≡ remainder d g (field bytes 10 49) → x ≡ reverse_bits_onto 8 (get_or bytes 6 0) 0 → bit_and x 127 ≡ r
-    → w ≡ word_in bytes → v ≡ reverse_bits_onto 32 w 0 → right (field bytes 10 56) × Numbers bytes v
-code_read bytes d g x r w v rd ed eg er ex q ew ev =
-    (code_right bytes x r rd ex (covered_rest bytes d g r er ed eg) q, code_numbers bytes w v rd ew ev)
-
--- ---- what the constructors answered
-pub entry_err : (n : ℕ) (e : OverheadFault) → ◌≡◌ {A = Result ℕ OverheadFault} (Err e) (read_entry n) → (480 < n) × (e ≡ ClientTooHigh)
-entry_err n e h = go (ltb 480 n) refl h
-  where
-    go : (b : Bool) → ltb 480 n ≡ b → ◌≡◌ {A = Result ℕ OverheadFault} (Err e) (cond b (Err ClientTooHigh) (Ok n)) → (480 < n) × (e ≡ ClientTooHigh)
-    go true q p = (ltb-true 480 n q, cc)
-    go false q p = let z : ◌≡◌ {A = ℕ} 0 1 = cc in absurd (omega arith)
-
-pub entry_ok : (n m : ℕ) → ◌≡◌ {A = Result ℕ OverheadFault} (Ok m) (read_entry n) → (n ≤ 480) × (m ≡ n)
-entry_ok n m h = go (ltb 480 n) refl h
-  where
-    go : (b : Bool) → ltb 480 n ≡ b → ◌≡◌ {A = Result ℕ OverheadFault} (Ok m) (cond b (Err ClientTooHigh) (Ok n)) → (n ≤ 480) × (m ≡ n)
-    go true q p = let z : ◌≡◌ {A = ℕ} 0 1 = cc in absurd (omega arith)
-    go false q p = (ltb-false 480 n q, cc)
-
-pub frame_some : (n m : ℕ) → Ok m ≡ checked_frame n → (n ≤ 479) × (m ≡ n)
-frame_some n m h = grind (arith, nat_tests)
-
-pub frame_none : (n : ℕ) (e : Refusal) → Err e ≡ checked_frame n → 479 < n
-frame_none n e h = grind (arith, nat_tests)
+    → w ≡ word_in bytes → v ≡ reverse_bits_onto 32 w 0
+    → a ≡ read_entry (bit_and (v / 8 / 512) 1023) → b ≡ read_frame_number (bit_and (v / 8) 511) → both a b ≡ read_bytes bytes
+unfolding read_bytes
+code_read bytes d g x r w v a b rd ed eg er ex q ew ev ea eb =
+    let n : Numbers bytes v = code_numbers bytes w v rd ew ev in
+    ap₂ both (ea ∙ ap read_entry (sym n.entry)) (eb ∙ ap read_frame_number (sym n.frame))
+    ∙ sym (read_both (field bytes 10 56) (code_right bytes x r rd ex (covered_rest bytes d g r er ed eg) q))

@@ -1,11 +1,13 @@
 -- The bits of the bytes that are written.
-use Rattle.std.proofs.Common.{◌≡◌, ℕ, zero, suc, ◌+◌, ◌*◌, ◌/◌, ◌%◌, ◌^◌, ◌<◌, ◌≤◌, Bool, false, List, [], ◌∷◌, ◌++◌, get_or, take, drop, replicate, sym, ap, ◌∙◌, ap₂, mod-eq_of_lt, div-add-mod', arith, lit<, shr-shr}
+use Rattle.std.proofs.Common.{◌≡◌, ℕ, zero, suc, ◌+◌, ◌*◌, ◌/◌, ◌%◌, ◌^◌, ◌<◌, ◌≤◌, Bool, true, false, List, [], ◌∷◌, ◌++◌, Some, None, Option, get_or, take, drop, replicate, sym, ap, ◌∙◌, ap₂, mod-eq_of_lt, div-add-mod', arith, lit<, shr-shr}
 use Rattle.std.specs.Int.Bits.{bit_or}
 use Rattle.std.specs.Int.{reverse_bits_onto}
 use Rattle.std.proofs.lemmas.Nat.{or_shifted}
 use Rattle.crc.specs.Bits.{odd, low_first, high_first, bits, field, packed}
 use Rattle.crc.proofs.Places.{numbered}
 use Rattle.crc.proofs.Digits.{low_reversed}
+use Rattle.std.proofs.lemmas.Bool.Decides.{nat_tests}
+use Rattle.numbers.specs.Entries.{entry_of, is_entry}
 use Rattle.overhead.specs.Format.{Fields, covered_bits, overhead_bits, overhead_bytes, remainder_of}
 use Rattle.overhead.proofs.Words.{word_of, bits_seven, numbers_written}
 
@@ -74,6 +76,11 @@ word_bytes v h =
   where
     join : (v q1 q2 q3 b0 b1 b2 b3 : ℕ) → q1 * 256 + b0 ≡ v → q2 * 256 + b1 ≡ q1 → q3 * 256 + b2 ≡ q2 → b3 ≡ q3 → word_of b0 b1 b2 b3 ≡ v
     join v q1 q2 q3 b0 b1 b2 b3 e1 e2 e3 e4 = omega arith
+
+-- an announced entry is at most the last client's number
+pub entry_small : (o : Option ℕ) (n : ℕ) → n ≡ entry_of o → is_entry o ≡ true → n ≤ 480
+entry_small (Some k) n e h = grind (arith, nat_tests)
+entry_small None n e h = omega arith
 
 -- from the values that the code computes
 pub turned_from : (f : Fields) (client frame w : ℕ) (bs : List ℕ)

@@ -2,7 +2,7 @@
 --   bits 10 to 19  the client number announced, 0 for none      bits 20 to 28  the frame number
 --   bits 49 to 55  the remainder of bits 10 to 48               each the highest bit first
 -- All other bits are sent as zero and not read.
-use Rattle.std.specs.Prelude.{ℕ, Bool, false, cond, not, List, ◌++◌, take, drop, replicate, Some, None, Ok, Err, Option, Result, ◌==◌, nat_lt}
+use Rattle.std.specs.Prelude.{ℕ, Bool, false, if◌then◌else◌, not, List, ◌++◌, take, drop, replicate, Ok, Err, Result, ◌==◌, nat_lt}
 use Rattle.crc.specs.Bits.{high_first, packed, field}
 use Rattle.crc.specs.Remainder.{remainder}
 use Rattle.crc.specs.Laws.{value}
@@ -48,8 +48,10 @@ found FrameTooHigh word = nat_lt 479 (fields_in word).frame
 -- the first fault found, or what the bits say
 unfoldable pub read_word : List Bool → Result Fields OverheadFault
 read_word word =
-    cond (found WrongRemainder word) (Err WrongRemainder)
-    (cond (found ClientTooHigh word) (Err ClientTooHigh) (cond (found FrameTooHigh word) (Err FrameTooHigh) (Ok (fields_in word))))
+    if found WrongRemainder word then Err WrongRemainder
+    else if found ClientTooHigh word then Err ClientTooHigh
+    else if found FrameTooHigh word then Err FrameTooHigh
+    else Ok (fields_in word)
 
 -- what seven bytes are read as
 unfoldable pub read_bytes : List ℕ → Result Fields OverheadFault

@@ -1,54 +1,51 @@
-// The overhead of a frame: seven bytes that announce the client of one slot, with the frame's number and a CRC-7.
-// Main promise: what `write` makes `read` gives back, and `read` answers a wrong remainder
-// for each written overhead of which one, two or three bits among 10 to 55 were changed.
+//! The overhead of a frame (ITU-T G.8312, Annex A): seven bytes that announce the client of one slot, with the frame's number and a CRC-7.
+//! Main promise: what `write` makes `read` gives back, and `read` answers a wrong remainder
+//! for each written overhead of which one, two or three bits among 10 to 55 were changed.
 #![tactic(auto)]
 
 ghost use Rattle.std.specs.Prelude.{◌≡◌, Ok};
 ghost use Rattle.crc.specs.Bits.{bits};
-ghost use Rattle.overhead.specs.Entry.{answered_entry, read_entry};
+ghost use Rattle.overhead.specs.Entry.{answered_entry, read_entry, read_frame_number};
 ghost use Rattle.overhead.specs.Format.{answered, fields_of, overhead_bits, overhead_bytes, read_bytes};
 ghost use Rattle.overhead.specs.Laws.{ChangesSeen, OthersNotRead, WorkedOverheads};
 
 use crc::Generator;
 use numbers::{ClientNumber, FrameNumber};
 
-// What a frame's overhead says: the client to which the slot of this frame number belongs, if any.
-#[derive(Clone, Copy)]
+/// What a frame's overhead says: the client to which the slot of this frame number belongs, if any.
+#[derive(Clone, Copy, Debug, PartialEq, Eq)]
 pub struct Overhead {
     pub announced: Option<ClientNumber>,
     pub frame: FrameNumber,
 }
 
-// Why an overhead cannot be read; of several faults the first in this order.
+/// Why an overhead cannot be read; of several faults the first in this order.
 #[derive(Clone, Copy, Debug, PartialEq, Eq)]
 pub enum OverheadFault {
-    // the remainder is not that of the bits before it
+    /// the remainder is not that of the bits before it
     WrongRemainder,
-    // the client number is above 480
+    /// the client number is above 480
     ClientTooHigh,
-    // the frame number is above 479
+    /// the frame number is above 479
     FrameTooHigh,
 }
 
 impl Overhead {
-    // The seven bytes to send.
+    /// The seven bytes to send.
     pub fn write(self) -> [u8; 7]
         ensures bits { bits result ≡ overhead_bits (fields_of self) }
         ensures bytes { result ≡ overhead_bytes (fields_of self) }
         ensures back { read_bytes result ≡ Ok (fields_of self) }
         ensures seen { ChangesSeen result }
     {
-        let client = match self.announced {
-            Some(client) => client.number(),
-            None => 0,
-        };
+        let client = ClientNumber::entry(self.announced);
         let numbers = ((client as u32) << 9) | self.frame.number() as u32;
         let [b0, b1, b2, b3] = (numbers.reverse_bits() >> 3).to_le_bytes();
         let remainder = Generator::degree_seven().remainder(&[b0, b1, b2, b3, 0, 0, 0], 10, 49);
         [b0, b1, b2, b3, 0, 0, (remainder as u8).reverse_bits()]
     }
 
-    // What seven bytes say; bits 0 to 9 are not looked at.
+    /// What seven bytes say, or the first fault found; bits 0 to 9 are not looked at.
     pub fn read(bytes: &[u8; 7]) -> Result<Overhead, OverheadFault>
         ensures { answered result ≡ read_bytes bytes.now }
     {
@@ -59,10 +56,8 @@ impl Overhead {
         }
         let numbers = u32::from_le_bytes([b0, b1, b2, b3]).reverse_bits() >> 3;
         let announced = announced_client(((numbers >> 9) & 0x3FF) as u16)?;
-        match FrameNumber::try_from((numbers & 0x1FF) as u16) {
-            Ok(frame) => Ok(Overhead { announced, frame }),
-            Err(_) => Err(OverheadFault::FrameTooHigh),
-        }
+        let frame = frame_number((numbers & 0x1FF) as u16)?;
+        Ok(Overhead { announced, frame })
     }
 }
 
@@ -70,22 +65,21 @@ impl Overhead {
 fn announced_client(entry: u16) -> Result<Option<ClientNumber>, OverheadFault>
     ensures { answered_entry result ≡ read_entry entry }
 {
-    if entry == 0 {
-        return Ok(None);
-    }
-    match ClientNumber::try_from(entry) {
-        Ok(client) => Ok(Some(client)),
-        Err(_) => Err(OverheadFault::ClientTooHigh),
-    }
+    ClientNumber::from_entry(entry).map_err(|_| OverheadFault::ClientTooHigh)
 }
 
-// Bits 10 to 55 alone decide what is read, and the worked values.
-pub fn format_holds() -> u8
+// The frame that a number names.
+fn frame_number(number: u16) -> Result<FrameNumber, OverheadFault>
+    ensures { result ≡ read_frame_number number }
+{
+    FrameNumber::try_from(number).map_err(|_| OverheadFault::FrameTooHigh)
+}
+
+/// Bits 10 to 55 alone decide what is read, and the worked values.
+pub fn format_holds()
     ensures others { OthersNotRead }
     ensures worked { WorkedOverheads }
-{
-    0
-}
+{}
 
 #[cfg(test)]
 mod tests {
@@ -94,10 +88,7 @@ mod tests {
 
     fn read_numbers(bytes: &[u8; 7]) -> Result<(u16, u16), OverheadFault> {
         let overhead = Overhead::read(bytes)?;
-        let entry = match overhead.announced {
-            Some(client) => client.number(),
-            None => 0,
-        };
+        let entry = overhead.announced.map_or(0, |client| client.number());
         Ok((entry, overhead.frame.number()))
     }
 
@@ -107,6 +98,7 @@ mod tests {
         let client_one = [0x00, 0x00, 0x08, 0x00, 0x00, 0x00, 0xC8];
         let last_client = [0x00, 0x78, 0x70, 0x1F, 0x00, 0x00, 0xE8];
         let read = Overhead::read(&last_client)?;
+        assert!(rt; read.announced.is_some());
         assert_eq!(rt; read.write(), last_client);
         assert_eq!(rt; read_numbers(&client_one), Ok((1, 0)));
         assert_eq!(rt; read_numbers(&last_client), Ok((480, 479)));

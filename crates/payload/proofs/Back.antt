@@ -95,17 +95,6 @@ bits_back (suc n) l e t =
     ∙ ap (λ (z : List ℕ). take 8 l ++ z) (bits_back n (drop 8 l) k (drop_bits_bits 8 l t))
     ∙ take-append-drop 8 l
 
-pub length_bytes_of : (n : ℕ) (l : List ℕ) → length (bytes_of n l) ≡ n
-unfolding bytes_of
-length_bytes_of zero l = refl
-length_bytes_of (suc n) l = ap suc (length_bytes_of n (drop 8 l))
-
-pub bytes_of_bytes : (n : ℕ) (l : List ℕ) → length l ≡ 8 * n → Bits l → Bytes (bytes_of n l)
-unfolding bytes_of
-bytes_of_bytes zero l e t i = omega arith
-bytes_of_bytes (suc n) l e t zero = value_below 8 (take 8 l) (length-take-le 8 l (omega arith)) (take_bits 8 l t)
-bytes_of_bytes (suc n) l e t (suc i) = bytes_of_bytes n (drop 8 l) (length-drop 8 l ∙ omega arith) (drop_bits_bits 8 l t) i
-
 -- sync bits
 sync_length : (y : Sync) → length (sync_bits y) ≡ 2
 sync_length Zeros = refl
@@ -128,13 +117,6 @@ sync_of_is (suc (suc zero)) h = refl
 sync_of_is (suc (suc (suc zero))) h = refl
 sync_of_is (suc (suc (suc (suc n)))) h = absurd (omega arith)
 
-sync_bits_is : (y : Sync) → Bits (sync_bits y)
-unfolding low
-sync_bits_is Zeros = low_bits 2 0
-sync_bits_is Control = low_bits 2 1
-sync_bits_is Data = low_bits 2 2
-sync_bits_is Ones = low_bits 2 3
-
 -- blocks
 block_length : (b : Block) → Whole b → length (block_bits b) ≡ 66
 block_length b w = length-append (sync_bits b.sync) (bits b.bytes) ∙ omega (arith, sync_length b.sync, length_bits b.bytes, w.0)
@@ -155,9 +137,6 @@ block_bits_back l e t =
     ∙ ap (λ (z : List ℕ). take 2 l ++ z) (bits_back 8 (drop 2 l) (length-drop 2 l ∙ omega arith) (drop_bits_bits 2 l t))
     ∙ take-append-drop 2 l
 
-block_whole : (l : List ℕ) → length l ≡ 66 → Bits l → Whole (block_of l)
-block_whole l e t = (length_bytes_of 8 (drop 2 l), bytes_of_bytes 8 (drop 2 l) (length-drop 2 l ∙ omega arith) (drop_bits_bits 2 l t))
-
 -- pairs
 same_pair : (p q : Pair) → p.first ≡ q.first → p.second ≡ q.second → p ≡ q
 same_pair p q a b =
@@ -168,11 +147,6 @@ same_pair p q a b =
 pub pair_length : (p : Pair) → WholePair p → length (pair_bits p) ≡ 132
 pair_length p w = length-append (block_bits p.first) (block_bits p.second)
     ∙ omega (arith, block_length p.first w.0, block_length p.second w.1)
-
-pub pair_is_bits : (p : Pair) → Bits (pair_bits p)
-pair_is_bits p = append_bits (block_bits p.first) (block_bits p.second)
-    (append_bits (sync_bits p.first.sync) (bits p.first.bytes) (sync_bits_is p.first.sync) (bits_bits p.first.bytes))
-    (append_bits (sync_bits p.second.sync) (bits p.second.bytes) (sync_bits_is p.second.sync) (bits_bits p.second.bytes))
 
 pub pair_back : (p : Pair) → WholePair p → pair_of (pair_bits p) ≡ p
 pair_back p w =
@@ -187,9 +161,3 @@ pair_bits_back l e t =
     ap (λ (z : List ℕ). z ++ block_bits (block_of (drop 66 l))) (block_bits_back (take 66 l) (length-take-le 66 l (omega arith)) (take_bits 66 l t))
     ∙ ap (λ (z : List ℕ). take 66 l ++ z) (block_bits_back (drop 66 l) (length-drop 66 l ∙ omega arith) (drop_bits_bits 66 l t))
     ∙ take-append-drop 66 l
-
-pub pair_whole : (l : List ℕ) → length l ≡ 132 → Bits l → WholePair (pair_of l)
-pair_whole l e t = (
-  block_whole (take 66 l) (length-take-le 66 l (omega arith)) (take_bits 66 l t),
-  block_whole (drop 66 l) (length-drop 66 l ∙ omega arith) (drop_bits_bits 66 l t),
-)

@@ -128,9 +128,6 @@ num_word P at t h =
     let e7 = byte_small (get_or P (at + 7) 0) (t (at + 7)) in
     sym (num_eight P at h ∙ simp (e0, e1, e2, e3, e4, e5, e6, e7) (omega arith))
 
-take_low : (n m x : ℕ) → take n (low (n + m) x) ≡ low n x
-take_low n m x = ap (λ (l : List ℕ). take n l) (low_split n m x) ∙ take_at (low n x) (low m (x / 2 ^ n)) n (length_low n x)
-
 -- bits of the payload from bit s of byte `at` on, as a number
 pub chunk : (P : List ℕ) (at s n : ℕ) → 8 * at + s + n ≤ 8 * length P →
     take n (drop (8 * at + s) (bits P)) ≡ low n (num (drop at P) / 2 ^ s)

@@ -10,7 +10,7 @@ use Rattle.payload.specs.declared.Pair.{Pair}
 use Rattle.payload.specs.Bits.{bits, bytes_of, splice}
 use Rattle.payload.specs.Pairs.{pair_bits, pair_of, WholePair}
 use Rattle.payload.specs.Payloads.{pair_at, pairs_of, payload_of}
-use Rattle.payload.proofs.Back.{Bits, append_bits, bits_back, bits_bits, bytes_back, drop_bits_bits, pair_back, pair_bits_back, pair_is_bits, pair_length, take_bits}
+use Rattle.payload.proofs.Back.{Bits, bits_bits, bytes_back, drop_bits_bits, pair_back, pair_bits_back, pair_length, take_bits}
 use Rattle.payload.proofs.Laws.{length_bits}
 use Rattle.payload.proofs.Reading.{take_add}
 
@@ -125,23 +125,6 @@ pairs_packed p ps d h w e =
 pub payload_is : (p : List ℕ) (ps : List Pair) → length p ≡ 7920 → Bytes p → bits p ≡ flat_map pair_bits ps → p ≡ payload_of ps
 unfolding payload_of
 payload_is p ps h t e = sym (ap (λ (z : List ℕ). bytes_of 7920 z) (sym e) ∙ ap (λ (n : ℕ). bytes_of n (bits p)) (sym h) ∙ bytes_back p t)
-
-joined_is_bits : (ps : List Pair) → Bits (flat_map pair_bits ps)
-joined_is_bits [] i = omega arith
-joined_is_bits (p ∷ ps) i = append_bits (pair_bits p) (flat_map pair_bits ps) (pair_is_bits p) (joined_is_bits ps) i
-
-joined_length : (ps : List Pair) (d : Pair) → ((j : ℕ) → j < length ps → WholePair (get_or ps j d)) → length (flat_map pair_bits ps) ≡ 132 * length ps
-joined_length [] d w = refl
-joined_length (p ∷ ps) d w = length-append (pair_bits p) (flat_map pair_bits ps)
-    ∙ omega (arith, pair_length p (w 0 (omega arith)), joined_length ps d (λ j h. w (suc j) (omega arith)))
-
--- the payload of 480 pairs has their bits, one pair after the other, and holds just these pairs
-pub payload_bits : (ps : List Pair) (d : Pair) → length ps ≡ 480 → ((j : ℕ) → j < 480 → WholePair (get_or ps j d)) → bits (payload_of ps) ≡ flat_map pair_bits ps
-unfolding payload_of
-payload_bits ps d h w = bits_back 7920 (flat_map pair_bits ps) (joined_length ps d (λ j l. w j (omega arith)) ∙ omega arith) (joined_is_bits ps)
-
-pub packing_undone : (ps : List Pair) (d : Pair) → length ps ≡ 480 → ((j : ℕ) → j < 480 → WholePair (get_or ps j d)) → pairs_of (payload_of ps) ≡ ps
-packing_undone ps d h w = pairs_packed (payload_of ps) ps d h w (payload_bits ps d h w)
 
 slices : (p : List ℕ) (a n : ℕ) → length p ≡ 7920 → a + n ≤ 480 →
     flat_map pair_bits (map (λ k. pair_at k p) (range_with_len (a + 1) n)) ≡ take (132 * n) (drop (132 * a) (bits p))

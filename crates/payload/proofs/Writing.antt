@@ -1,4 +1,4 @@
-use Rattle.std.proofs.Common.{◌≡◌, ℕ, suc, ◌+◌, ◌-◌, ◌*◌, ◌/◌, ◌%◌, ◌^◌, ◌<◌, ◌≤◌, List, [], ◌∷◌, ◌++◌, length, get_or, take, drop, set, sym, refl, ap, ◌∙◌, append_assoc, arith, lit<, length-append, length-drop, drop-cons}
+use Rattle.std.proofs.Common.{◌≡◌, ℕ, suc, ◌+◌, ◌-◌, ◌*◌, ◌/◌, ◌%◌, ◌^◌, ◌<◌, ◌≤◌, ◌⊎◌, inl, inr, List, [], ◌∷◌, ◌++◌, length, get_or, take, drop, set, sym, refl, ap, ◌∙◌, append_assoc, arith, lit<, length-append, length-drop, drop-cons}
 use Rattle.std.proofs.lemmas.List.{take_at, drop_at, drop-drop, take-append-drop, set_split, length-take-le}
 use Rattle.std.specs.Int.Bits.{bit_and, bit_or, or_shifted_r}
 use Rattle.std.proofs.lemmas.Nat.{and_mask, or_shifted}
@@ -11,7 +11,7 @@ use Rattle.payload.specs.declared.Pair.{Pair}
 use Rattle.payload.specs.Pairs.{block_bits, pair_bits}
 use Rattle.payload.proofs.Reading.{or_shl_62, or_shl_2, sync_low}
 use Rattle.payload.specs.Bits.{low, bits, splice}
-use Rattle.payload.proofs.Laws.{num, low_split, low_join, length_low, bits_low, length_bits, low_more, pair_join}
+use Rattle.payload.proofs.Laws.{num, low_split, low_join, length_low, bits_low, drop_bits, length_bits, low_more, pair_join}
 
 -- bits in the middle
 pub splice_at : (s : ℕ) (pre x post new : List ℕ) → length pre ≡ s → length x ≡ length new →
@@ -51,6 +51,16 @@ bits_append (x ∷ xs) ys = ap (λ (l : List ℕ). low 8 x ++ l) (bits_append xs
 
 bits_three : (xs ys zs : List ℕ) → bits (xs ++ (ys ++ zs)) ≡ bits xs ++ (bits ys ++ bits zs)
 bits_three xs ys zs = bits_append xs (ys ++ zs) ∙ ap (λ (l : List ℕ). bits xs ++ l) (bits_append ys zs)
+
+-- eight bytes within others, as bits
+pub bits_taken : (P : List ℕ) (at k : ℕ) → at + 8 ≤ length P → k ≡ 8 → bits (take k (drop at P)) ≡ take 64 (drop (8 * at) (bits P))
+bits_taken P at k h e =
+    let D : List ℕ = drop at P in
+    let l : length (take 8 (drop at P)) ≡ 8 = length-take-le 8 (drop at P) (omega (arith, length-drop at P)) in
+    let m : length (bits (take 8 (drop at P))) ≡ 64 = length_bits (take 8 (drop at P)) ∙ ap (λ (n : ℕ). 8 * n) l in
+    ap (λ (n : ℕ). bits (take n D)) e
+    ∙ sym (ap (λ (z : List ℕ). take 64 z) (drop_bits at P ∙ ap bits (sym (take-append-drop 8 D)) ∙ bits_append (take 8 D) (drop 8 D))
+    ∙ take_at (bits (take 8 D)) (bits (drop 8 D)) 64 m)
 
 -- bytes put in the place of as many
 pub splice_bytes : (P new : List ℕ) (at : ℕ) → at + length new ≤ length P →
@@ -93,7 +103,7 @@ bits_at P at h =
 length_front : (P : List ℕ) (at : ℕ) → at < length P → length (bits (take at P)) ≡ 8 * at
 length_front P at h = length_bits (take at P) ∙ ap (λ (n : ℕ). 8 * n) (length-take-le at P (omega arith))
 
-pub put_low_law : (P : List ℕ) (at n : ℕ) → at < length P → get_or P at 0 < 256 → n < 16 →
+put_low_law : (P : List ℕ) (at n : ℕ) → at < length P → get_or P at 0 < 256 → n < 16 →
     bits (set P at (bit_or (bit_and (get_or P at 0) 240) n)) ≡ splice (8 * at) (low 4 n) (bits P)
 put_low_law P at n h t m =
     let b : ℕ = get_or P at 0 in
@@ -111,7 +121,7 @@ put_low_law P at n h t m =
     ∙ sym (splice_at (8 * at) T (low 4 b) (low 4 (b / 16) ++ D) (low 4 n) (length_front P at h) (length_low 4 b ∙ sym (length_low 4 n)))
     ∙ sym (ap (λ (l : List ℕ). splice (8 * at) (low 4 n) l) (bits_at P at h ∙ ap (λ (l : List ℕ). T ++ l) (append_assoc (low 4 b) (low 4 (b / 16)) D)))
 
-pub put_high_law : (P : List ℕ) (at n : ℕ) → at < length P → n < 16 →
+put_high_law : (P : List ℕ) (at n : ℕ) → at < length P → n < 16 →
     bits (set P at (bit_or (bit_and (get_or P at 0) 15) ((n * 16) % 256))) ≡ splice (8 * at + 4) (low 4 n) (bits P)
 put_high_law P at n h m =
     let b : ℕ = get_or P at 0 in
@@ -138,6 +148,15 @@ put_high_law P at n h m =
     ∙ sym (splice_at (8 * at + 4) (T ++ low 4 b) (low 4 (b / 16)) D (low 4 n) g (length_low 4 (b / 16) ∙ sym (length_low 4 n)))
     ∙ sym (ap (λ (l : List ℕ). splice (8 * at + 4) (low 4 n) l) (bits_at P at h ∙ ap (λ (l : List ℕ). T ++ l) (append_assoc (low 4 b) (low 4 (b / 16)) D) ∙ sym (append_assoc T (low 4 b) (low 4 (b / 16) ++ D))))
 
+pub put_half_law : (P : List ℕ) (at n s : ℕ) → at < length P → get_or P at 0 < 256 → n < 16 → (s ≡ 0) ⊎ (s ≡ 4) →
+    bits (set P at (bit_or (bit_and (get_or P at 0) (240 / 2 ^ s)) (n * 2 ^ s % 256))) ≡ splice (8 * at + s) (low 4 n) (bits P)
+put_half_law P at n s h t m (inl e) =
+    let same : n * 1 % 256 ≡ n = omega arith in
+    let here : 8 * at ≡ 8 * at + 0 = omega arith in
+    rw e (ap (λ (z : ℕ). bits (set P at (bit_or (bit_and (get_or P at 0) 240) z))) same ∙ put_low_law P at n h t m
+    ∙ ap (λ (z : ℕ). splice z (low 4 n) (bits P)) here)
+put_half_law P at n s h t m (inr e) = rw e (put_high_law P at n h m)
+
 -- three pieces side by side are one
 pub splice_three : (a b c s t u x y z : ℕ) (B B1 B2 B3 : List ℕ) → s ≤ length B → x < 2 ^ a → x + 2 ^ a * y < 2 ^ (a + b) →
     t ≡ s + a → u ≡ s + (a + b) →
@@ -161,7 +180,7 @@ or_shl_4 x y h =
 pub low_write : (s v t w at : ℕ) (B B1 B2 B3 : List ℕ) → s < 4 → v < 2 ^ 64 → t < 4 → w < 2 ^ 64 → 8 * at ≤ length B →
     B1 ≡ splice (8 * at) (low 64 (bit_or s ((v * 4) % 2 ^ 64))) B →
     B2 ≡ splice (8 * (at + 8)) (low 64 (bit_or (bit_or (v / 2 ^ 62) ((t * 4) % 2 ^ 64)) ((w * 16) % 2 ^ 64))) B1 →
-    B3 ≡ splice (8 * (at + 16)) (low 4 (w / 2 ^ 60)) B2 →
+    B3 ≡ splice (8 * (at + 16) + 0) (low 4 (w / 2 ^ 60)) B2 →
     B3 ≡ splice (8 * at) ((low 2 s ++ low 64 v) ++ (low 2 t ++ low 64 w)) B
 low_write s v t w at B B1 B2 B3 a b c d h p q r =
     let lo : bit_or s ((v * 4) % 2 ^ 64) ≡ s + 4 * (v % 2 ^ 62) = or_shl_2 s v a in
@@ -169,7 +188,7 @@ low_write s v t w at B B1 B2 B3 a b c d h p q r =
     let hi' = or_shl_4 (bit_or (v / 2 ^ 62) ((t * 4) % 2 ^ 64)) w (omega arith) in
     let x : bit_or s ((v * 4) % 2 ^ 64) + 2 ^ 64 * bit_or (bit_or (v / 2 ^ 62) ((t * 4) % 2 ^ 64)) ((w * 16) % 2 ^ 64) + 2 ^ 128 * (w / 2 ^ 60)
     ≡ s + 4 * v + 2 ^ 66 * (t + 4 * w) = omega arith in
-    splice_three 64 64 4 (8 * at) (8 * (at + 8)) (8 * (at + 16)) _ _ _ B B1 B2 B3 h (omega arith) (omega arith) (omega arith) (omega arith) p q r
+    splice_three 64 64 4 (8 * at) (8 * (at + 8)) (8 * (at + 16) + 0) _ _ _ B B1 B2 B3 h (omega arith) (omega arith) (omega arith) (omega arith) p q r
     ∙ ap (λ (z : ℕ). splice (8 * at) (low 132 z) B) x
     ∙ ap (λ (l : List ℕ). splice (8 * at) l B) (sym (pair_join s v t w a b c))
 

@@ -1,5 +1,5 @@
 -- A pair of blocks as bits in sending order, and back.
-use Rattle.std.specs.Prelude.{ℕ, cond, List, ◌++◌, take, drop, ◌==◌}
+use Rattle.std.specs.Prelude.{ℕ, if◌then◌else◌, List, ◌++◌, take, drop, ◌==◌}
 use Rattle.block.specs.declared.Block.{Block}
 use Rattle.block.specs.declared.Sync.{Sync}
 use Rattle.block.specs.declared.Sync.TheVariants.{Zeros, Control, Data, Ones}
@@ -22,7 +22,7 @@ WholePair p = Whole p.first × Whole p.second
 
 -- the sync that has this number
 abbrev pub sync_of : ℕ → Sync
-sync_of n = cond (n == 0) Zeros (cond (n == 1) Control (cond (n == 2) Data Ones))
+sync_of n = if n == 0 then Zeros else if n == 1 then Control else if n == 2 then Data else Ones
 
 -- the block that 66 bits write
 abbrev pub block_of : List ℕ → Block

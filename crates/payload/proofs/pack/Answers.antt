@@ -16,10 +16,10 @@ loop-two-preserved c =
     let q : List ℕ = c.write_at.new.payload in
     let r : List ℕ = c.write_at-in-loop-two.new.payload in
     let a : bits q ≡ splice (132 * (2 * t)) (pair_bits (get_or ps (2 * t) blank)) (bits p) =
-    c.write_at.ensures.sent ∙ ap (λ (n : ℕ). splice n (pair_bits (get_or ps (2 * t) blank)) (bits p)) c.of_slot.ensures.bit in
+    c.write_at.ensures.sent ∙ ap (λ (n : ℕ). splice n (pair_bits (get_or ps (2 * t) blank)) (bits p)) c.of_slot.ensures in
     let b : bits r ≡ splice (132 * (2 * t + 1)) (pair_bits (get_or ps (2 * t + 1) blank)) (bits q) =
     c.write_at-in-loop-two.ensures.sent
-    ∙ ap (λ (n : ℕ). splice n (pair_bits (get_or ps (2 * t + 1) blank)) (bits q)) c.of_slot-in-loop-two.ensures.bit in (
+    ∙ ap (λ (n : ℕ). splice n (pair_bits (get_or ps (2 * t + 1) blank)) (bits q)) c.of_slot-in-loop-two.ensures in (
       packed_two ps t p q r c.told-pairs c.loop-two-test.true c.loop-two.invariant.1 c.write_at.array_long
           c.write_at.ensures.whole c.write_at-in-loop-two.ensures.whole a b c.loop-two.invariant.0,
       c.write_at-in-loop-two.array_long,
@@ -35,7 +35,7 @@ returns c =
     sym (take_all (132 * (2 * c.loop-two.two)) (bits p) (omega (arith, length_bits c.loop-two.payload))) ∙ c.loop-two.invariant.0
     ∙ ap (λ (z : List Pair). flat_map pair_bits z) (take_all (2 * c.loop-two.two) ps (omega arith)) in
     record {
-      made = payload_is p ps h c.hold_bytes.ensures.bytes sent;
+      made = payload_is p ps h c.hold_bytes.ensures sent;
       sent = sent;
       undone = pairs_packed p ps blank c.told-pairs (λ j l. c.loop-two.invariant.2 j (omega arith)) sent;
     }

@@ -11,8 +11,8 @@ loop-two-preserved c =
       length-set _ _ _ ∙ length-set _ _ _ ∙ c.loop-two.invariant.0,
       unpacked_two c.loop-two.pairs t p c.read_at.result c.read_at-in-loop-two.result c.loop-two.invariant.0 c.loop-two-test.true
           c.loop-two.invariant.1
-          (pair_at_is p _ _ c.read_at.result (c.of_slot.ensures.bit ∙ omega arith) c.read_at.ensures.whole c.read_at.ensures.sent)
-          (pair_at_is p _ _ c.read_at-in-loop-two.result (c.of_slot-in-loop-two.ensures.bit ∙ omega arith)
+          (pair_at_is p _ _ c.read_at.result (c.of_slot.ensures ∙ omega arith) c.read_at.ensures.whole c.read_at.ensures.sent)
+          (pair_at_is p _ _ c.read_at-in-loop-two.result (c.of_slot-in-loop-two.ensures ∙ omega arith)
           c.read_at-in-loop-two.ensures.whole c.read_at-in-loop-two.ensures.sent),
     )
 

@@ -1,7 +1,6 @@
-use Rattle.std.proofs.Common.{refl}
 use Rattle.crc.proofs.Detect.{detects}
 use Rattle.crc.proofs.Generators.{seven}
 use Rattle.crc.proofs.Generator.degree_seven.Goals as goal
 
-pub returns : goal.returns
-returns c = record { degree = refl; terms = refl; detects = detects 7 0xB7 63 seven }
+pub returns-clause-detects : goal.returns-clause-detects
+returns-clause-detects c = detects 7 0xB7 63 seven

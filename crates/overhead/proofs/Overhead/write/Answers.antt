@@ -1,12 +1,10 @@
-use Rattle.std.proofs.Common.{◌≡◌, ℕ, ◌^◌, ◌<◌, ◌≤◌, List, [], ◌∷◌, get_or, sym, refl, ap, ◌∙◌, subst, ap₂, arith}
+use Rattle.std.proofs.Common.{◌≡◌, ℕ, ◌^◌, ◌<◌, ◌≤◌, List, [], ◌∷◌, get_or, refl, ap, ◌∙◌, subst, ap₂, arith}
 use Rattle.crc.specs.Bits.{bits, field}
 use Rattle.crc.specs.Remainder.{remainder}
 use Rattle.overhead.specs.Format.{Fields, fields_of, covered_bits, overhead_bits, remainder_of}
-use Rattle.numbers.specs.Entries.{entry_of}
-use Rattle.overhead.proofs.Writing.{Turned, turned_from, covered, written, bytes_written}
+use Rattle.overhead.proofs.Writing.{Turned, entry_small, turned_from, covered, written, bytes_written}
 use Rattle.overhead.proofs.Reading.{reads_back, changes_seen}
 use Rattle.overhead.proofs.Overhead.write.Goals as goal
-use Rattle.overhead.proofs.Overhead.write.Goals.{in-Some, in-None}
 
 pub returns : goal.returns
 returns c =
@@ -15,15 +13,9 @@ returns c =
     let w : ℕ = c.reverse_bits.result in
     let r : ℕ = c.remainder-remainder.result in
     let x : ℕ = c.reverse_bits-2.result in
-    let entry-is : c.match-self.client ≡ f.entry
-    = elim c.match-self.branch [
-      | in-Some v ↦ v.client-is ∙ v.number-client.ensures.value ∙ sym (ap entry_of v.in-Some.is)
-      | in-None v ↦ v.client-is ∙ sym (ap entry_of v.in-None.is)
-    ] in
-    let high : c.match-self.client ≤ 480
-    = elim c.match-self.branch [ in-Some v ↦ omega (arith, v.client-is, v.number-client.ensures.value, v.number-client.ensures.range.1) | in-None v ↦ omega (arith, v.client-is) ] in
+    let high : c.entry-client.result ≤ 480 = entry_small c.args.self.announced c.entry-client.result c.entry-client.ensures.value c.entry-client.ensures.range in
     let t : Turned f w (get_or bs 0 0) (get_or bs 1 0) (get_or bs 2 0) (get_or bs 3 0)
-    = turned_from f c.match-self.client c.number.result w bs entry-is c.number.ensures.value high (omega (arith, c.number.ensures.value, c.number.ensures.range))
+    = turned_from f c.entry-client.result c.number.result w bs c.entry-client.ensures.value c.number.ensures.value high (omega (arith, c.number.ensures.value, c.number.ensures.range))
     c.reverse_bits.ensures c.reverse_bits.type_inv c.to_le_bytes.ensures in
     let rest : r ≡ remainder_of (covered_bits f)
     = c.remainder-remainder.ensures.value
@@ -37,6 +29,6 @@ returns c =
     record {
       bits = e;
       bytes = bytes_written f w (get_or bs 0 0) (get_or bs 1 0) (get_or bs 2 0) (get_or bs 3 0) t x c.reverse_bits-2.type_inv e;
-      back = reads_back f all (omega (arith, entry-is, high)) c.number.ensures.range e;
+      back = reads_back f all (omega (arith, c.entry-client.ensures.value, high)) c.number.ensures.range e;
       seen = changes_seen f all refl e;
     }
