@@ -1,5 +1,6 @@
 -- What a bank means: an area of w places for each of the first clients, as many as fit.
 use Rattle.std.specs.Prelude.{◌≡◌, ℕ, ◌+◌, ◌-◌, ◌*◌, ◌/◌, ◌≤◌, min, if◌then◌else◌, List, [], ◌∷◌, ◌++◌, length, take, drop, Ok, Err, Result, ◌==◌, nat_le, slice_index_or}
+use Rattle.std.specs.Borrow.{GName}
 use Rattle.numbers.specs.Range.{slots}
 use Rattle.block.specs.declared.Block.{Block}
 use Rattle.refusal.specs.declared.Refusal.{Refusal}
@@ -46,6 +47,15 @@ bank_lists bank = blocks_in bank.width bank.memory.now bank.rings
 
 abbrev pub bank_holding : Bank → Holding
 bank_holding bank = record { held = bank_lists bank; free = free_in bank.width (length bank.memory.now) bank.rings }
+
+-- what a bank is to its callers: what it holds, its number of areas, and the name of the loan that its memory is
+pub record Contents : Type 0 where
+  pub holding : Holding
+  pub areas : ℕ
+  pub lender : GName
+
+abbrev pub contents : Bank → Contents
+contents bank = record { holding = bank_holding bank; areas = bank_areas bank; lender = bank.memory.ghost_name }
 
 -- after a next for client c: the place of the block that is given is free, for this client
 abbrev pub after_next : ℕ → Holding → Holding
