@@ -72,9 +72,11 @@ impl<'a> Bank<'a> {
     fn area(&self, client: ClientNumber) -> Option<usize>
         ensures { MatchOption result (width_of self.now.width (length self.now.memory.now) client ≡ 0) (λ start. AreaAt self.now.width (length self.now.memory.now) client start) }
     {
-        let end = (client.number() as usize).checked_mul(self.width)?;
-        if end <= self.memory.len() {
-            Some(end - self.width)
+        let places = self.memory.len();
+        // in u128: with `checked_mul` a read took six times as long
+        let end = client.number() as u128 * self.width as u128;
+        if end <= places as u128 {
+            Some(end as usize - self.width)
         } else {
             None
         }
