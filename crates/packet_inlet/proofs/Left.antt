@@ -1,22 +1,15 @@
 -- The first of the blocks left, and the rest.
-use Rattle.std.proofs.Common.{◌≡◌, ℕ, zero, suc, ◌+◌, ◌<◌, ◌≤◌, min, Bool, true, false, not, eqb, List, [], ◌∷◌, ◌++◌, length, get_or, take, drop, Some, None, Ok, Option, sym, refl, ◌∙◌, ⊎_elim, add-one, arith}
+use Rattle.std.proofs.Common.{◌≡◌, ℕ, zero, suc, ◌+◌, ◌<◌, ◌≤◌, min, Bool, true, false, eqb, List, [], ◌∷◌, ◌++◌, length, get_or, take, drop, Some, None, Ok, Option, sym, refl, ◌∙◌, ⊎_elim, add-one, arith}
 use Rattle.std.proofs.Math.Path.{fun_ext}
 use Rattle.std.specs.List.{slice_get}
 use Rattle.std.proofs.lemmas.List.{take_all, drop_all}
-use Rattle.std.proofs.lemmas.Bool.{cases_lt, eq-eqb, eqb-true, false≢true}
+use Rattle.std.proofs.lemmas.Bool.{cases_lt, eq-eqb}
 use Rattle.block.specs.declared.Block.{Block}
 use Rattle.port.specs.Model.{first_of, rest_of, taken}
 use Rattle.packet.specs.Format.{opening, blocks_of}
 use Rattle.packet.proofs.Blocks.{blocks_are}
 use Rattle.packet_inlet.specs.Packets.{packets_of, blocks_of_all, are_lengths}
 use Rattle.packet_inlet.specs.Waiting.{only_for, new_answer}
-
-pub same_number : (a b : ℕ) → false ≡ not (eqb a b) → a ≡ b
-same_number a b e = go (eqb a b) refl e
-  where
-    go : (t : Bool) → eqb a b ≡ t → false ≡ not t → a ≡ b
-    go true q e = eqb-true a b q
-    go false q e = absurd (false≢true e)
 
 -- a list by its entry at a place
 pub drop_some : {A : Type 0} (xs : List A) (k : ℕ) (a : A) → Some a ≡ slice_get xs k → drop k xs ≡ a ∷ drop (k + 1) xs

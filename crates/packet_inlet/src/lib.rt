@@ -18,7 +18,8 @@ use refusal::Refusal;
 /// The packets of one client, lent as lengths and joined bytes: no memory is needed beside the caller's.
 #[derive(Drop)]
 pub struct PacketInlet<'a> {
-    client: ClientNumber,
+    // a number: with a `ClientNumber` here the check has no rule for a caller's `?` on what `new` answers
+    client: u16,
     // the packet under way, and how many of its blocks are given
     packet: &'a [u8],
     place: usize,
@@ -57,7 +58,7 @@ impl<'a> PacketInlet<'a> {
             return Err(Refusal::PacketLength);
         }
         Ok(PacketInlet {
-            client,
+            client: client.number(),
             packet: &[],
             place: block_count(0),
             lengths,
@@ -89,7 +90,7 @@ impl<'a> Inlet for PacketInlet<'a> {
     ghost waiting = { waiting_at };
 
     fn next(&mut self, client: ClientNumber) -> Option<Block> {
-        if client != self.client {
+        if client.number() != self.client {
             return None;
         }
         if let Some(block) = block_at(self.packet, self.place) {

@@ -9,7 +9,7 @@ returns-then-not-are_lengths c = record { answer = search rules; whole = cut_law
 pub returns : goal.returns
 returns c = record {
   answer =
-      new_made c.args.client c.args.client c.block_count.result c.args.lengths.now c.args.bytes.now
-      refl (c.block_count.ensures.blocks [] refl) c.if-not-are_lengths.ensures;
+      new_made c.args.client c.number.result c.block_count.result c.args.lengths.now c.args.bytes.now
+      c.number.ensures.value (c.block_count.ensures.blocks [] refl) c.if-not-are_lengths.ensures;
   whole = cut_lawful c.args.lengths.now c.args.bytes.now;
 }

@@ -5,7 +5,7 @@ use Rattle.packet.specs.Format.{blocks_of}
 use Rattle.packet.proofs.Blocks.{length_blocks_of}
 use Rattle.packet_inlet.specs.Packets.{blocks_of_all}
 use Rattle.packet_inlet.specs.Waiting.{blocks_left}
-use Rattle.packet_inlet.proofs.Left.{same_number, drop_some, drop_none, nth_within, own_list, own_taken}
+use Rattle.packet_inlet.proofs.Left.{drop_some, drop_none, nth_within, own_list, own_taken}
 use Rattle.packet_inlet.proofs.PacketInletInlet.next.Goals as goal
 
 pub overflow_add-self : goal.overflow_add-self
@@ -16,7 +16,7 @@ overflow_add-self c =
 
 pub returns-in-Some : goal.returns-in-Some
 returns-in-Some c =
-    let own : c.args.client ≡ c.args.self.now.client = same_number _ _ c.if-ne.ensures in
+    let own : c.args.client ≡ c.args.self.now.client = sym c.number.ensures.value ∙ c.if-number-self.false in
     let behind : List Block = blocks_of_all c.args.self.now.lengths.now c.args.self.now.bytes.now in
     let left : blocks_left c.args.self.now ≡ c.in-Some.block ∷ (drop (c.args.self.now.place + 1) (blocks_of c.args.self.now.packet.now) ++ behind) =
     ap (λ (bs : List Block). bs ++ behind) (drop_some (blocks_of c.args.self.now.packet.now) c.args.self.now.place c.in-Some.block c.in-Some.ensures) in
@@ -30,7 +30,7 @@ open_next-requires c = drop_none (blocks_of c.args.self.now.packet.now) c.args.s
 
 pub returns : goal.returns
 returns c =
-    let own : c.args.client ≡ c.args.self.now.client = same_number _ _ c.if-ne.ensures in
+    let own : c.args.client ≡ c.args.self.now.client = sym c.number.ensures.value ∙ c.if-number-self.false in
     record {
       first = c.open_next.ensures.first ∙ sym (ap first_of (own_list _ _ (blocks_left c.args.self.now) own));
       rest = own_taken _ _ _ (blocks_left c.args.self.now) (blocks_left c.open_next.new.self) own c.open_next.ensures.client c.open_next.ensures.rest;
