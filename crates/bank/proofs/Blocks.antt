@@ -3,11 +3,12 @@ use Rattle.std.proofs.Common.{◌≡◌, ℕ, zero, suc, ◌+◌, ◌-◌, ◌<�
 use Rattle.std.proofs.Math.Path.{fun_ext}
 use Rattle.std.proofs.lemmas.List.{take_all, drop_all, take-append-le, take_more_set, get_or-set_same, get_or-set_other, get_or-take, get_or-drop, get_or_past, get_or-replicate, length-replicate}
 use Rattle.std.proofs.lemmas.Bool.{eqb-true, eqb-false, cases_lt}
+use Rattle.std.specs.Borrow.{GName}
 use Rattle.block.specs.declared.Block.{Block}
 use Rattle.port.specs.Model.{Lists, Holding, Accepted, first_of, rest_of, taken, given, empty_with}
 use Rattle.bank.specs.declared.Ring.{Ring}
 use Rattle.bank.specs.Ring.{turned, place_at}
-use Rattle.bank.specs.Lists.{width_of, AreaAt, area_of, ring_of, blocks_in, free_in, after_next, after_put}
+use Rattle.bank.specs.Lists.{Contents, width_of, AreaAt, area_of, ring_of, blocks_in, free_in, after_next, after_put}
 use Rattle.bank.proofs.Turns.{length_turned, place_below, turned_set, turned_get, turned_next}
 use Rattle.bank.proofs.Areas.{area_is, length_area, area_set, area_kept}
 
@@ -41,6 +42,13 @@ none_taken lists c e = fun_ext (λ k. go k (eqb k c) refl)
 
 holding_by : (l m : Lists) (f g : ℕ → ℕ) → l ≡ m → f ≡ g → ◌≡◌ {A = Holding} (record { held = l; free = f }) (record { held = m; free = g })
 holding_by l m f g e q = ap (λ (x : Lists). record { held = x; free = f }) e ∙ ap (λ (x : ℕ → ℕ). record { held = m; free = x }) q
+
+-- a bank's contents by what it holds
+abbrev pub held_by : ℕ → GName → Holding → Contents
+held_by n g h = record { holding = h; areas = n; lender = g }
+
+pub contents_by : (n m : ℕ) (g : GName) (h j : Holding) → n ≡ m → h ≡ j → held_by n g h ≡ held_by m g j
+contents_by n m g h j e q = ap (λ k. held_by k g h) e ∙ ap (held_by m g) q
 
 -- and no place is freed
 pub none_freed : (lists : Lists) (f : ℕ → ℕ) (c : ℕ) → lists c ≡ [] → ◌≡◌ {A = Holding} (record { held = lists; free = f }) (after_next c (record { held = lists; free = f }))

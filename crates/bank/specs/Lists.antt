@@ -1,5 +1,6 @@
 -- What a bank means: an area of w places for each of the first clients, as many as fit.
-use Rattle.std.specs.Prelude.{◌≡◌, ℕ, ◌+◌, ◌-◌, ◌*◌, ◌/◌, ◌≤◌, min, cond, List, [], ◌∷◌, ◌++◌, length, take, drop, Ok, Err, Result, ◌==◌, nat_le, slice_index_or}
+use Rattle.std.specs.Prelude.{◌≡◌, ℕ, ◌+◌, ◌-◌, ◌*◌, ◌/◌, ◌≤◌, min, if◌then◌else◌, List, [], ◌∷◌, ◌++◌, length, take, drop, Ok, Err, Result, ◌==◌, nat_le, slice_index_or}
+use Rattle.std.specs.Borrow.{GName}
 use Rattle.numbers.specs.Range.{slots}
 use Rattle.block.specs.declared.Block.{Block}
 use Rattle.refusal.specs.declared.Refusal.{Refusal}
@@ -10,11 +11,11 @@ use Rattle.bank.specs.Ring.{turned}
 
 -- areas of w places over m lent blocks: as many as fit, none of width 0, and no more than there can be clients
 abbrev pub area_count : ℕ → ℕ → ℕ
-area_count w m = cond (w == 0) 0 (min slots (m / w))
+area_count w m = if w == 0 then 0 else min slots (m / w)
 
 -- the places of client k's area, 0 where it has none
 abbrev pub width_of : ℕ → ℕ → ℕ → ℕ
-width_of w m k = cond (nat_le 1 k) (cond (nat_le k (area_count w m)) w 0) 0
+width_of w m k = if nat_le 1 k then (if nat_le k (area_count w m) then w else 0) else 0
 
 -- client k has an area, which begins at a place of the memory and lies within it
 pub record AreaAt (w m k start : ℕ) : Type 0 where
@@ -47,11 +48,20 @@ bank_lists bank = blocks_in bank.width bank.memory.now bank.rings
 abbrev pub bank_holding : Bank → Holding
 bank_holding bank = record { held = bank_lists bank; free = free_in bank.width (length bank.memory.now) bank.rings }
 
+-- what a bank is to its callers: what it holds, its number of areas, and the name of the loan that its memory is
+pub record Contents : Type 0 where
+  pub holding : Holding
+  pub areas : ℕ
+  pub lender : GName
+
+abbrev pub contents : Bank → Contents
+contents bank = record { holding = bank_holding bank; areas = bank_areas bank; lender = bank.memory.ghost_name }
+
 -- after a next for client c: the place of the block that is given is free, for this client
 abbrev pub after_next : ℕ → Holding → Holding
-after_next c h = record { held = taken c h.held; free = λ k. h.free k + cond (k == c) (given (first_of (h.held c))) 0 }
+after_next c h = record { held = taken c h.held; free = λ k. h.free k + (if k == c then given (first_of (h.held c)) else 0) }
 
 -- after a put for client c, by its answer: two places fewer are free, for this client
 abbrev pub after_put : Result (Unit {0}) Refusal → ℕ → Block → Block → Holding → Holding
-after_put (Ok _) c a b h = record { held = updated h.held c (h.held c ++ (a ∷ b ∷ [])); free = λ k. h.free k - cond (k == c) 2 0 }
+after_put (Ok _) c a b h = record { held = updated h.held c (h.held c ++ (a ∷ b ∷ [])); free = λ k. h.free k - (if k == c then 2 else 0) }
 after_put (Err _) c a b h = h

@@ -1,12 +1,12 @@
-// A bank: a store of blocks in lent memory that is cut into areas of equal width, one for each of the first clients.
-// Each area is a ring, so that a call costs the same however full the bank is; a removed block frees its place.
-// Main promise: the bank is an inlet and an outlet, and the list it holds for a client is the list that waits for it.
+//! A bank: a store of blocks in lent memory that is cut into areas of equal width, one for each of the first clients.
+//! Each area is a ring, so that a call costs the same however full the bank is; a removed block frees its place.
+//! Main promise: the bank is an inlet and an outlet, and the list it holds for a client is the list that waits for it.
 #![tactic(auto)]
 
 ghost use Rattle.std.specs.Prelude.{◌≡◌, ◌≤◌, length, MatchOption};
 ghost use Rattle.port.specs.Model.{Put, empty_with, first_of, taken};
 ghost use Rattle.bank.specs.Ring.{place_at};
-ghost use Rattle.bank.specs.Lists.{area_count, width_of, AreaAt, ring_of, bank_areas, bank_lists, bank_holding, after_next, after_put};
+ghost use Rattle.bank.specs.Lists.{AreaAt, after_next, after_put, area_count, bank_areas, bank_holding, bank_lists, contents, ring_of, width_of};
 
 use block::Block;
 use numbers::ClientNumber;
@@ -46,11 +46,9 @@ pub struct Bank<'a> {
 }
 
 impl<'a> Bank<'a> {
-    // A bank that holds nothing, with areas of `width` places.
+    /// A bank that holds nothing, with areas of `width` places.
     pub fn new(memory: &'a mut [Block], width: usize) -> Bank<'a>
-        ensures holding { bank_holding result ≡ empty_with (width_of width (length memory.old)) }
-        ensures areas { bank_areas result ≡ area_count width (length memory.old) }
-        ensures lender { result.memory.ghost_name ≡ memory.entry.ghost_name }
+        ensures { contents result ≡ record { holding = empty_with (width_of width (length memory.old)); areas = area_count width (length memory.old); lender = memory.entry.ghost_name } }
     {
         Bank {
             memory,
@@ -59,15 +57,15 @@ impl<'a> Bank<'a> {
         }
     }
 
-    // The number of areas: clients 1 to this number have one.
+    /// The number of areas: clients 1 to this number have one.
     pub fn areas(&self) -> usize
         ensures { result ≡ bank_areas self.now }
     {
-        if self.width == 0 {
-            0
-        } else {
-            CLIENTS.min(self.memory.len() / self.width)
-        }
+        self.memory
+            .len()
+            .checked_div(self.width)
+            .unwrap_or(0)
+            .min(CLIENTS)
     }
 
     // Where the client's area begins, or none where it has none.
@@ -75,6 +73,7 @@ impl<'a> Bank<'a> {
         ensures { MatchOption result (width_of self.now.width (length self.now.memory.now) client ≡ 0) (λ start. AreaAt self.now.width (length self.now.memory.now) client start) }
     {
         let places = self.memory.len();
+        // in u128: with `checked_mul` a read took six times as long
         let end = client.number() as u128 * self.width as u128;
         if end <= places as u128 {
             Some(end as usize - self.width)
@@ -98,9 +97,7 @@ impl<'a> Inlet for Bank<'a> {
     fn next(&mut self, client: ClientNumber) -> Option<Block>
         ensures first { result ≡ first_of (bank_lists self.old client) }
         ensures rest { bank_lists self.new ≡ taken client (bank_lists self.old) }
-        ensures holding { bank_holding self.new ≡ after_next client (bank_holding self.old) }
-        ensures areas { bank_areas self.new ≡ bank_areas self.old }
-        ensures lender { self.new.memory.ghost_name ≡ self.old.memory.ghost_name }
+        ensures contents { contents self.new ≡ record (contents self.old) { holding = after_next client (bank_holding self.old) } }
     {
         let start = self.area(client)?;
         let ring = self.ring(client);
@@ -121,17 +118,15 @@ impl<'a> Outlet for Bank<'a> {
     ghost holding = { bank_holding };
 
     fn free(&self, client: ClientNumber) -> usize {
-        match self.area(client) {
-            Some(_) => self.width.saturating_sub(self.ring(client).count),
-            None => 0,
-        }
+        let Some(_) = self.area(client) else {
+            return 0;
+        };
+        self.width.saturating_sub(self.ring(client).count)
     }
 
     fn put(&mut self, client: ClientNumber, a: Block, b: Block) -> Result<(), Refusal>
         ensures put { Put client a b result (bank_holding self.old) (bank_holding self.new) }
-        ensures holding { bank_holding self.new ≡ after_put result client a b (bank_holding self.old) }
-        ensures areas { bank_areas self.new ≡ bank_areas self.old }
-        ensures lender { self.new.memory.ghost_name ≡ self.old.memory.ghost_name }
+        ensures contents { contents self.new ≡ record (contents self.old) { holding = after_put result client a b (bank_holding self.old) } }
     {
         let Some(start) = self.area(client) else {
             return Err(Refusal::NoFreePlace);
@@ -153,6 +148,10 @@ impl<'a> Outlet for Bank<'a> {
 }
 
 impl<'a> Store for Bank<'a> {
+    ghost use Rattle.std.proofs.Common.{refl};
+
+    ghost one_list = { λ bank. refl };
+
     fn first(&self, client: ClientNumber) -> Option<Block> {
         let start = self.area(client)?;
         let ring = self.ring(client);

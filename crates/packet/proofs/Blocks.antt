@@ -1,6 +1,7 @@
 -- The blocks of a packet one by one: how many there are, and what one more data block adds.
 use Rattle.std.proofs.Common.{◌≡◌, ℕ, zero, suc, ◌+◌, ◌-◌, ◌*◌, ◌/◌, ◌<◌, ◌≤◌, List, [], ◌∷◌, ◌++◌, length, get_or, take, drop, set, replicate, Some, sym, refl, ap, ◌∙◌, add-one, arith, length-append}
 use Rattle.std.specs.List.{slice_get}
+use Rattle.std.specs.Simd.{first_chunks}
 use Rattle.std.proofs.lemmas.List.{drop-replicate, drop-drop, set_at, drop_all, drop_more, drop-set-lt, append_assoc, length-set}
 use Rattle.block.specs.declared.Block.{Block}
 use Rattle.block.specs.declared.Sync.TheVariants.{Control}
@@ -40,6 +41,17 @@ has_blocks bytes p e = length_blocks_of p ∙ ap block_count e
 pub sixty_four : SixtyFourBytes
 unfolding blocks_of data_blocks end_block
 sixty_four p e = (length_blocks_of p ∙ ap block_count e, rw (e, drop_all 64 p (omega arith)) refl)
+
+-- the i-th chunk of eight bytes, and what is left behind n of them
+pub chunk_is : (n i : ℕ) (p d : List ℕ) → i < n → get_or (first_chunks 8 n p) i d ≡ take 8 (drop (8 * i) p)
+chunk_is zero i p d l = absurd (omega arith)
+chunk_is (suc n) zero p d l = refl
+chunk_is (suc n) (suc i) p d l =
+    let e : 8 + 8 * i ≡ 8 * suc i = omega arith in
+    chunk_is n i (drop 8 p) d (omega arith) ∙ rw (drop-drop, e) refl
+
+pub left_is : (n : ℕ) (p : List ℕ) → drop (n * 8) p ≡ drop (8 * n) p
+left_is n p = let e : n * 8 ≡ 8 * n = omega arith in rw e refl
 
 -- an output whose front is made takes one more entry
 pub front_more : {A : Type 0} (front out made : List A) (n : ℕ) (a : A) → made ≡ front ++ drop n out → length front ≡ n → n < length out → set made n a ≡ (front ++ (a ∷ [])) ++ drop (n + 1) out

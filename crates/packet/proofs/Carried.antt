@@ -1,9 +1,8 @@
 -- What a walk over data blocks has found so far.
-use Rattle.std.proofs.Common.{◌≡◌, ℕ, ◌+◌, ◌*◌, ◌<◌, ◌≤◌, min, Bool, true, false, cond, eqb, List, [], ◌∷◌, ◌++◌, length, get_or, take, drop, Some, None, sym, refl, ap, ◌∙◌, ⊎_elim, add_assoc, arith, length-append, length-drop, length-take}
+use Rattle.std.proofs.Common.{◌≡◌, ℕ, ◌+◌, ◌*◌, ◌<◌, ◌≤◌, Bool, true, false, cond, eqb, List, [], ◌∷◌, ◌++◌, length, get_or, take, drop, Some, None, sym, refl, ap, ◌∙◌, add_assoc, arith, length-append, length-drop, length-take}
 use Rattle.std.specs.List.{flat_map}
 use Rattle.std.specs.Str.{bytes_eq}
 use Rattle.std.proofs.lemmas.List.{drop_more, take_more, append_assoc, drop_all, get_or_default, flat_map_more}
-use Rattle.std.proofs.lemmas.Bool.{cases_lt}
 use Rattle.std.proofs.lemmas.Bool.Decides.{nat_tests}
 use Rattle.block.specs.declared.Block.{Block}
 use Rattle.block.specs.declared.Sync.{Sync}
@@ -141,13 +140,11 @@ sized_long xs n (Some f) l =
     let t : in_range (length (xs ++ f.0)) ≡ false = grind (arith, nat_tests) in
     rw t refl
 
--- the walk comes to the last block, or to more data than a packet has
-pub none_ended : (bs : List Block) (n : ℕ) → Walked bs n → min (length bs) 251 ≤ n → sized (carried bs) ≡ None
-unfolding carried
-none_ended bs n w h = ⊎_elim short long (cases_lt n (length bs))
-  where
-    short : n < length bs → sized (carried bs) ≡ None
-    short l = ap sized w.is ∙ sized_long (flat_map bytes_in (take n bs)) n (carried (drop n bs)) (omega (arith, w.long))
+-- the walk comes to more data than a packet has
+pub none_long : (bs : List Block) (n : ℕ) → Walked bs n → 2000 < 8 * n → sized (carried bs) ≡ None
+none_long bs n w h = ap sized w.is ∙ sized_long (flat_map bytes_in (take n bs)) n (carried (drop n bs)) (omega (arith, w.long))
 
-    long : length bs ≤ n → sized (carried bs) ≡ None
-    long l = ap sized (w.is ∙ ap (λ ds. shifted (flat_map bytes_in (take n bs)) n (carried ds)) (drop_all n bs l))
+-- the walk comes to the last block
+pub none_ended : (bs : List Block) (n : ℕ) → Walked bs n → length bs ≤ n → sized (carried bs) ≡ None
+unfolding carried
+none_ended bs n w l = ap sized (w.is ∙ ap (λ ds. shifted (flat_map bytes_in (take n bs)) n (carried ds)) (drop_all n bs l))

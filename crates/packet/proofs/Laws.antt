@@ -1,18 +1,15 @@
 -- What was written is read: the packet at the front of its own blocks.
-use Rattle.std.proofs.Common.{◌≡◌, ℕ, zero, suc, ◌+◌, ◌-◌, ◌*◌, ◌/◌, ◌<◌, ◌≤◌, Bool, true, false, List, [], ◌∷◌, ◌++◌, length, get_or, take, drop, replicate, Some, None, Ok, Err, Decides, Result, sym, refl, ap, ◌∙◌, arith, length-drop, take-add}
+use Rattle.std.proofs.Common.{◌≡◌, ℕ, zero, suc, ◌+◌, ◌-◌, ◌*◌, ◌/◌, ◌<◌, ◌≤◌, true, false, List, [], ◌∷◌, ◌++◌, length, get_or, take, drop, replicate, Some, None, Ok, Err, Option, Result, sym, refl, ap, ◌∙◌, arith, length-drop, take-add}
+use Rattle.std.specs.Option.{MatchOption, ok_or}
 use Rattle.std.proofs.lemmas.List.{take_at, append_assoc, take-append-drop}
-use Rattle.std.proofs.lemmas.Slice.Eq.{bytes_eq-Decides}
-use Rattle.std.proofs.lemmas.Bool.{le-leb, lt-leb, false≢true}
-use Rattle.std.proofs.lemmas.Bool.Decides.{same_from_decides}
+use Rattle.std.proofs.lemmas.Bool.{le-leb, lt-leb}
 use Rattle.block.specs.declared.Block.{Block}
-use Rattle.block.specs.declared.Sync.{Sync}
-use Rattle.block.specs.declared.Sync.TheVariants.{Zeros, Control, Data as DataSync, Ones}
 use Rattle.block.specs.declared.Class.TheVariants.{End}
 use Rattle.block.specs.Classes.{control_class}
 use Rattle.refusal.specs.declared.Refusal.{Refusal}
 use Rattle.refusal.specs.declared.Refusal.TheVariants.{NoPacket, OutputTooShort}
 use Rattle.block.specs.Fixed.{idle_block}
-use Rattle.packet.specs.Format.{opening, in_range, end_types, end_block, data_blocks, blocks_of}
+use Rattle.packet.specs.Format.{in_range, end_types, end_block, data_blocks, blocks_of}
 use Rattle.packet.specs.Reading.{prefixed, carried, sized, opens, packet_at}
 use Rattle.packet.specs.Spans.{Spans, spanned}
 use Rattle.packet.specs.Answers.{over, leaves, read_answer, bytes_of, GivesBack}
@@ -66,21 +63,6 @@ given_back blocks before after r a o p behind e t l =
     let ok : r ≡ Ok (length p, 2 + length p / 8) = a ∙ ap (λ f. read_answer f (length before)) found ∙ rw (le-leb (length p) (length before) l) refl in
     (ok, o ∙ ap (λ f. leaves r (bytes_of f) before) found ∙ ap (λ q. leaves q p before) ok)
 
-opening_by : (s : Sync) (bytes : List ℕ) (bs : List Block) → opens (record { sync = s; bytes = bytes } ∷ bs) ≡ true → record { sync = s; bytes = bytes } ≡ opening
-opening_by Control bytes bs e = ap (λ (l : List ℕ). record { sync = Control; bytes = l }) ((bytes_eq-Decides bytes opening.bytes).0 e)
-opening_by Zeros bytes bs e = absurd (false≢true e)
-opening_by DataSync bytes bs e = absurd (false≢true e)
-opening_by Ones bytes bs e = absurd (false≢true e)
-
--- the first block opens a packet if it is the opening
-opens_decides : (b : Block) (bs : List Block) → Decides (opens (b ∷ bs)) (b ≡ opening)
-opens_decides b bs = (opening_by b.sync b.bytes bs, λ e. ap (λ (x : Block). opens (x ∷ bs)) e)
-
--- as code tests it
-pub opens_by : (blocks : List Block) (d : Block) (r : Bool) → 0 < length blocks → Decides r (get_or blocks 0 d ≡ opening) → r ≡ opens blocks
-opens_by [] d r l h = absurd (omega arith)
-opens_by (b ∷ bs) d r l h = same_from_decides r (opens (b ∷ bs)) h (opens_decides b bs)
-
 -- what the reader finds, by what it tests
 pub none_unopened : (blocks : List Block) → false ≡ opens blocks → packet_at blocks ≡ None
 unfolding packet_at
@@ -95,6 +77,11 @@ unfolding packet_at
 found_behind blocks behind whole left o b s =
     let two : 1 + (whole + 1) ≡ whole + 2 = omega arith in
     rw (sym o, sym b, s.is, two) refl
+
+-- a `?` that leaves says that nothing was found, and answers the cause given
+pub none_given : {A : Type 0} (o : Option A) (e f : Refusal) (P : Type 0) (Q : A → Type 0) → MatchOption o P Q → Err f ≡ ok_or o e → P × (f ≡ e)
+none_given None e f P Q m q = (m, cc)
+none_given (Some x) e f P Q m q = absurd cc
 
 -- the reader's answers
 pub answer_none : (blocks : List Block) (places : ℕ) → packet_at blocks ≡ None → Err NoPacket ≡ read_answer (packet_at blocks) places

@@ -1,5 +1,5 @@
 -- What the writer and the reader answer, and what they leave in the output.
-use Rattle.std.specs.Prelude.{◌≡◌, ℕ, ◌+◌, ◌/◌, ◌≤◌, true, cond, List, [], ◌++◌, length, drop, Some, None, Ok, Err, Result, nat_le}
+use Rattle.std.specs.Prelude.{◌≡◌, ℕ, ◌+◌, ◌/◌, ◌≤◌, true, if◌then◌else◌, List, [], ◌++◌, length, drop, Some, None, Ok, Err, Result, nat_le}
 use Rattle.block.specs.declared.Block.{Block}
 use Rattle.refusal.specs.declared.Refusal.{Refusal}
 use Rattle.refusal.specs.declared.Refusal.TheVariants.{PacketLength, NoPacket, OutputTooShort}
@@ -18,15 +18,13 @@ leaves (Err _) front out = out
 -- the writer's answer for an output of so many places: the number of blocks
 abbrev pub write_answer : List ℕ → ℕ → Result ℕ Refusal
 write_answer p places =
-    cond (in_range (length p))
-    (cond (nat_le (length (blocks_of p)) places) (Ok (length (blocks_of p))) (Err OutputTooShort))
-    (Err PacketLength)
+    if in_range (length p) then (if nat_le (length (blocks_of p)) places then Ok (length (blocks_of p)) else Err OutputTooShort) else Err PacketLength
 
 -- the reader's answer for an output of so many places: the packet's length and the blocks used
 abbrev pub read_answer : Found → ℕ → Result (ℕ × ℕ) Refusal
 read_answer None places = Err NoPacket
 read_answer (Some found) places =
-    cond (nat_le (length found.0) places) (Ok (length found.0, found.1)) (Err OutputTooShort)
+    if nat_le (length found.0) places then (Ok (length found.0, found.1)) else Err OutputTooShort
 
 -- the bytes found
 abbrev pub bytes_of : Found → List ℕ

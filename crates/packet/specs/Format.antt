@@ -1,12 +1,12 @@
 -- A packet as blocks: the opening, data blocks of eight bytes, an end with what is left, one idle.
-use Rattle.std.specs.Prelude.{◌≡◌, ℕ, zero, suc, ◌+◌, ◌-◌, ◌*◌, ◌/◌, Bool, false, cond, List, [], ◌∷◌, ◌++◌, length, take, drop, replicate, nat_le, slice_index, slice_index_or}
+use Rattle.std.specs.Prelude.{◌≡◌, ℕ, zero, suc, ◌+◌, ◌-◌, ◌*◌, ◌/◌, Bool, false, if◌then◌else◌, List, [], ◌∷◌, ◌++◌, length, take, drop, replicate, nat_le, slice_index, slice_index_or}
 use Rattle.block.specs.declared.Block.{Block}
 use Rattle.block.specs.declared.Sync.TheVariants.{Control, Data}
 use Rattle.block.specs.Fixed.{idle_block}
 
 -- a packet has 64 to 2,000 bytes
 abbrev pub in_range : ℕ → Bool
-in_range n = cond (nat_le 64 n) (nat_le n 2000) false
+in_range n = if nat_le 64 n then nat_le n 2000 else false
 
 -- the start block of a packet
 abbrev pub opening : Block

@@ -1,5 +1,5 @@
 -- The packet that stands at the front of blocks, if one does.
-use Rattle.std.specs.Prelude.{ℕ, ◌+◌, Bool, false, cond, List, [], ◌∷◌, ◌++◌, length, take, drop, Some, None, Option}
+use Rattle.std.specs.Prelude.{ℕ, ◌+◌, Bool, false, if◌then◌else◌, List, [], ◌∷◌, ◌++◌, length, take, drop, Some, None, Option}
 use Rattle.std.specs.Str.{bytes_eq}
 use Rattle.block.specs.declared.Block.{Block}
 use Rattle.block.specs.declared.Sync.TheVariants.{Zeros, Control, Data as DataSync, Ones}
@@ -33,7 +33,7 @@ carried (b ∷ bs) =
 -- only if the bytes are as many as a packet may have
 abbrev pub sized : Found → Found
 sized None = None
-sized (Some found) = cond (in_range (length found.0)) (Some found) None
+sized (Some found) = if in_range (length found.0) then Some found else None
 
 -- is the first block the start block of a packet, sync and all bytes?
 abbrev pub opens : List Block → Bool
@@ -42,4 +42,4 @@ opens (b ∷ bs) = elim b.sync [ Zeros ↦ false | Control ↦ bytes_eq b.bytes 
 
 -- the packet at the front: the opening, data blocks and an end
 unfoldable pub packet_at : List Block → Found
-packet_at bs = cond (opens bs) (prefixed [] (sized (carried (drop 1 bs)))) None
+packet_at bs = if opens bs then prefixed [] (sized (carried (drop 1 bs))) else None

@@ -1,9 +1,9 @@
-// Packets as blocks: a start block, data blocks of eight bytes, an end with the bytes that are left, and one idle.
-// A packet has 64 to 2,000 bytes; the reader looks at the front of the blocks and at nothing behind the end.
-// Main promise: `write` puts exactly the blocks of the packet, and `read` gives that packet back, whatever stands behind.
+//! Packets as blocks: a start block, data blocks of eight bytes, an end with the bytes that are left, and one idle.
+//! A packet has 64 to 2,000 bytes; the reader looks at the front of the blocks and at nothing behind the end.
+//! Main promise: `write` puts exactly the blocks of the packet, and `read` gives that packet back, whatever stands behind.
 #![tactic(auto)]
 
-ghost use Rattle.std.specs.Prelude.{◌≡◌, ◌+◌, ◌*◌, ◌<◌, ◌≤◌, ◌++◌, length, drop, None, MatchOption};
+ghost use Rattle.std.specs.Prelude.{◌≡◌, ◌+◌, ◌*◌, ◌<◌, ◌≤◌, ◌++◌, length, drop, true, false, None, MatchOption};
 ghost use Rattle.std.specs.List.{slice_get};
 ghost use Rattle.block.specs.Classes.{class_of};
 ghost use Rattle.packet.specs.Answers.{GivesBack, bytes_of, leaves, read_answer, write_answer};
@@ -27,14 +27,14 @@ const OPENING: Block = Block {
 // The types of the ends that carry 0 to 7 bytes.
 const END_TYPES: [u8; 8] = [0x87, 0x99, 0xAA, 0xB4, 0xCC, 0xD2, 0xE1, 0xFF];
 
-// May a packet have so many bytes?
+/// May a packet have so many bytes?
 pub fn is_packet_length(bytes: usize) -> bool
     ensures { result ≡ in_range bytes }
 {
-    bytes >= SHORTEST && bytes <= LONGEST
+    (SHORTEST..=LONGEST).contains(&bytes)
 }
 
-// The blocks of a packet of so many bytes.
+/// The number of blocks of a packet of so many bytes.
 pub fn block_count(bytes: usize) -> usize
     ensures value { result ≡ block_count bytes }
     ensures blocks { HasBlocks bytes result }
@@ -58,38 +58,35 @@ fn end_block(left: &[u8]) -> Block
 }
 
 // The data block that carries eight bytes.
-fn data_block(eight: &[u8]) -> Block
-    requires { length eight.now ≡ 8 }
-    ensures { result ≡ data_block eight.now }
+fn data_block(bytes: [u8; 8]) -> Block
+    ensures { result ≡ data_block bytes }
 {
-    let mut bytes = [0; 8];
-    bytes.copy_from_slice(eight);
     Block {
         sync: Sync::Data,
         bytes,
     }
 }
 
-// The packet's block at a place, counted from 0; none behind the idle.
+/// The packet's block at a place, counted from 0; none behind the idle.
 pub fn block_at(packet: &[u8], place: usize) -> Option<Block>
     ensures { result ≡ slice_get (blocks_of packet.now) place }
 {
     if place == 0 {
         return Some(OPENING);
     }
-    let whole = packet.len() / 8;
+    let (eights, left) = packet.as_chunks::<8>();
     let at = place - 1;
-    if at < whole {
-        return Some(data_block(&packet[8 * at..8 * at + 8]));
+    if at < eights.len() {
+        return Some(data_block(eights[at]));
     }
-    match at - whole {
-        0 => Some(end_block(&packet[8 * whole..])),
+    match at - eights.len() {
+        0 => Some(end_block(left)),
         1 => Some(Block::idle()),
         _ => None,
     }
 }
 
-// Writes the packet's blocks at the front of the output, and answers how many they are.
+/// Writes the packet's blocks at the front of the output, and answers how many they are.
 pub fn write(packet: &[u8], out: &mut [Block]) -> Result<usize, Refusal>
     ensures answer { result ≡ write_answer packet.now (length out.old) }
     ensures output { out.new ≡ leaves result (blocks_of packet.now) out.old }
@@ -101,21 +98,24 @@ pub fn write(packet: &[u8], out: &mut [Block]) -> Result<usize, Refusal>
     if out.len() < count {
         return Err(Refusal::OutputTooShort);
     }
-    let whole = packet.len() / 8;
+    let (eights, left) = packet.as_chunks::<8>();
     out[0] = OPENING;
-    for i in 0..whole {
-        out[i + 1] = data_block(&packet[8 * i..8 * i + 8]);
+    for (i, eight) in eights.iter().enumerate() {
+        out[i + 1] = data_block(*eight);
     }
-    out[whole + 1] = end_block(&packet[8 * whole..]);
-    out[whole + 2] = Block::idle();
+    out[eights.len() + 1] = end_block(left);
+    out[eights.len() + 2] = Block::idle();
     Ok(count)
 }
 
-// Is the first block the start block of a packet?
-fn is_opened(blocks: &[Block]) -> bool
-    ensures { result ≡ opens blocks.now }
+// The blocks behind the first, if that is the start block of a packet.
+fn behind_opening(blocks: &[Block]) -> Option<&[Block]>
+    ensures { MatchOption result (opens blocks.now ≡ false) (λ behind. (opens blocks.now ≡ true) × (behind.now ≡ drop 1 blocks.now)) }
 {
-    !blocks.is_empty() && blocks[0] == OPENING
+    let [first, behind @ ..] = blocks else {
+        return None;
+    };
+    (*first == OPENING).then_some(behind)
 }
 
 // How far a packet goes: its data blocks, and the bytes in the end behind them.
@@ -125,15 +125,7 @@ struct Extent {
     left: usize,
 }
 
-// The eight bytes of a block.
-fn bytes_of(block: Block) -> [u8; 8]
-    ensures bytes { result ≡ block.bytes }
-    ensures eight { length result ≡ 8 }
-{
-    block.bytes
-}
-
-// The class of a block, which has eight bytes.
+// The class of a block, which has eight bytes: a block that is passed by value is known to have them.
 fn class_of(block: Block) -> Class
     ensures class { result ≡ class_of block }
     ensures eight { length block.bytes ≡ 8 }
@@ -145,9 +137,13 @@ fn class_of(block: Block) -> Class
 fn find_end(blocks: &[Block]) -> Option<Extent>
     ensures { MatchOption result (sized (carried blocks.now) ≡ None) (λ e. Spans blocks.now (sized (carried blocks.now)) e.whole e.left) }
 {
-    for whole in 0..blocks.len().min(LONGEST / 8 + 1) {
-        match class_of(blocks[whole]) {
-            Class::Data => {}
+    for (whole, block) in blocks.iter().enumerate() {
+        match class_of(*block) {
+            Class::Data => {
+                if whole == LONGEST / 8 {
+                    return None;
+                }
+            }
             Class::End(left) => {
                 let left = left as usize;
                 if is_packet_length(8 * whole + left) {
@@ -161,6 +157,14 @@ fn find_end(blocks: &[Block]) -> Option<Extent>
     None
 }
 
+// The eight bytes of a block; copied by value, since a copy from behind the reference takes twice the time.
+fn bytes_of(block: Block) -> [u8; 8]
+    ensures bytes { result ≡ block.bytes }
+    ensures eight { length result ≡ 8 }
+{
+    block.bytes
+}
+
 // Copies the bytes of the data blocks and of the end to the front of the output.
 fn copy_bytes(blocks: &[Block], extent: Extent, out: &mut [u8])
     requires inside { extent.whole < length blocks.now }
@@ -168,28 +172,23 @@ fn copy_bytes(blocks: &[Block], extent: Extent, out: &mut [u8])
     requires room { 8 * extent.whole + extent.left ≤ length out.old }
     ensures { out.new ≡ spanned blocks.now extent.whole extent.left ++ drop (8 * extent.whole + extent.left) out.old }
 {
-    for i in 0..extent.whole {
-        out[8 * i..8 * i + 8].copy_from_slice(&bytes_of(blocks[i]));
+    let Extent { whole, left } = extent;
+    for (i, block) in blocks[..whole].iter().enumerate() {
+        out[8 * i..8 * i + 8].copy_from_slice(&bytes_of(*block));
     }
-    let whole = 8 * extent.whole;
-    let end = bytes_of(blocks[extent.whole]);
-    out[whole..whole + extent.left].copy_from_slice(&end[1..1 + extent.left]);
+    let end = bytes_of(blocks[whole]);
+    out[8 * whole..8 * whole + left].copy_from_slice(&end[1..1 + left]);
 }
 
-// Reads the packet at the front of the blocks into the front of the output.
-// Answers its length and the blocks from the start to the end, both included.
+/// Reads the packet at the front of the blocks into the front of the output.
+/// Answers its length and the blocks from the start to the end, both included.
 pub fn read(blocks: &[Block], out: &mut [u8]) -> Result<(usize, usize), Refusal>
     ensures answer { result ≡ read_answer (packet_at blocks.now) (length out.old) }
     ensures output { out.new ≡ leaves result (bytes_of (packet_at blocks.now)) out.old }
     ensures back { GivesBack blocks.now out.old result out.new }
 {
-    if !is_opened(blocks) {
-        return Err(Refusal::NoPacket);
-    }
-    let behind = &blocks[1..];
-    let Some(extent) = find_end(behind) else {
-        return Err(Refusal::NoPacket);
-    };
+    let behind = behind_opening(blocks).ok_or(Refusal::NoPacket)?;
+    let extent = find_end(behind).ok_or(Refusal::NoPacket)?;
     let bytes = 8 * extent.whole + extent.left;
     if out.len() < bytes {
         return Err(Refusal::OutputTooShort);
@@ -210,11 +209,7 @@ mod tests {
 
     // Bytes 0, 1, 2 and so on, round at 256.
     fn counting() -> [u8; 2001] {
-        let mut bytes = [0; 2001];
-        for i in 0..2001usize {
-            bytes[i] = (i % 256) as u8;
-        }
-        bytes
+        std::array::from_fn(|i| (i % 256) as u8)
     }
 
     #[test]

@@ -1,5 +1,5 @@
 -- Packets given by their lengths and their joined bytes, and the blocks of them all.
-use Rattle.std.specs.Prelude.{◌≡◌, ℕ, Bool, true, false, cond, List, [], ◌∷◌, map, length, take, drop, sum, ◌==◌}
+use Rattle.std.specs.Prelude.{◌≡◌, ℕ, Bool, true, false, if◌then◌else◌, List, [], ◌∷◌, map, length, take, drop, sum, ◌==◌}
 use Rattle.std.specs.List.{flat_map}
 use Rattle.block.specs.declared.Block.{Block}
 use Rattle.packet.specs.Format.{in_range, blocks_of}
@@ -16,11 +16,11 @@ blocks_of_all lengths bytes = flat_map blocks_of (packets_of lengths bytes)
 -- may each packet have so many bytes?
 abbrev pub in_range_all : List ℕ → Bool
 in_range_all [] = true
-in_range_all (n ∷ lengths) = cond (in_range n) (in_range_all lengths) false
+in_range_all (n ∷ lengths) = if in_range n then in_range_all lengths else false
 
 -- lengths of packets that add up to so many bytes
 abbrev pub are_lengths : List ℕ → ℕ → Bool
-are_lengths lengths bytes = cond (in_range_all lengths) (sum lengths == bytes) false
+are_lengths lengths bytes = if in_range_all lengths then sum lengths == bytes else false
 
 -- So lengths and bytes are cut into packets of just these lengths, and nothing is left over.
 abbrev pub CutWhole : List ℕ → List ℕ → Type 0

@@ -1,5 +1,5 @@
 -- What a packet inlet means: the blocks of its packets not yet given wait for its one client.
-use Rattle.std.specs.Prelude.{ℕ, cond, List, [], ◌++◌, length, drop, Ok, Err, Result}
+use Rattle.std.specs.Prelude.{ℕ, if◌then◌else◌, List, [], ◌++◌, length, drop, Ok, Err, Result}
 use Rattle.block.specs.declared.Block.{Block}
 use Rattle.refusal.specs.declared.Refusal.{Refusal}
 use Rattle.refusal.specs.declared.Refusal.TheVariants.{PacketLength}
@@ -26,4 +26,4 @@ meaning (Err cause) = Err cause
 
 -- the answer for client c: the blocks of all its packets wait
 abbrev pub new_answer : ℕ → List ℕ → List ℕ → Result Lists Refusal
-new_answer c lengths bytes = cond (are_lengths lengths (length bytes)) (Ok (only_for c (blocks_of_all lengths bytes))) (Err PacketLength)
+new_answer c lengths bytes = if are_lengths lengths (length bytes) then Ok (only_for c (blocks_of_all lengths bytes)) else Err PacketLength

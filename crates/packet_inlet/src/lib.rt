@@ -1,6 +1,6 @@
-// An inlet that gives one client the blocks of its packets, which are lent as lengths and joined bytes.
-// Each packet's blocks come in order: its start block, its data blocks, its end and one idle; then the next packet's.
-// Main promise: a new inlet's list is exactly the blocks of all its packets, and each call gives and removes the first.
+//! An inlet that gives one client the blocks of its packets, which are lent as lengths and joined bytes.
+//! Each packet's blocks come in order: its start block, its data blocks, its end and one idle; then the next packet's.
+//! Main promise: a new inlet's list is exactly the blocks of all its packets, and each call gives and removes the first.
 #![tactic(auto)]
 
 ghost use Rattle.std.specs.Prelude.{◌≡◌, [], drop};
@@ -15,8 +15,10 @@ use packet::{block_at, block_count, is_packet_length};
 use port::Inlet;
 use refusal::Refusal;
 
+/// The packets of one client, lent as lengths and joined bytes: no memory is needed beside the caller's.
 #[derive(Drop)]
 pub struct PacketInlet<'a> {
+    // a number: with a `ClientNumber` here the check has no rule for a caller's `?` on what `new` answers
     client: u16,
     // the packet under way, and how many of its blocks are given
     packet: &'a [u8],
@@ -42,7 +44,8 @@ fn are_lengths(lengths: &[u16], bytes: usize) -> bool
 }
 
 impl<'a> PacketInlet<'a> {
-    // The inlet of a client with these packets; no packet is under way, as after one given whole.
+    /// The inlet of a client with these packets, or `PacketLength` where the lengths are not those of packets, or not of all
+    /// the bytes. No packet is under way, as after one given whole.
     pub fn new(
         client: ClientNumber,
         lengths: &'a [u16],
@@ -70,16 +73,15 @@ impl<'a> PacketInlet<'a> {
         ensures first { result ≡ first_of (blocks_left self.old) }
         ensures rest { blocks_left self.new ≡ rest_of (blocks_left self.old) }
     {
-        let lengths = self.lengths;
-        let bytes = self.bytes;
-        if lengths.is_empty() {
+        let [length, lengths @ ..] = self.lengths else {
             return None;
-        }
-        let cut = bytes.len().min(lengths[0] as usize);
-        self.packet = &bytes[0..cut];
+        };
+        let cut = self.bytes.len().min(*length as usize);
+        let (packet, bytes) = self.bytes.split_at(cut);
+        self.packet = packet;
         self.place = 1;
-        self.lengths = &lengths[1..];
-        self.bytes = &bytes[cut..];
+        self.lengths = lengths;
+        self.bytes = bytes;
         block_at(self.packet, 0)
     }
 }

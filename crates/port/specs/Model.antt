@@ -1,5 +1,5 @@
 -- What an inlet and an outlet are to a contract: lists of blocks by the client's number.
-use Rattle.std.specs.Prelude.{◌≡◌, ℕ, ◌+◌, ◌<◌, ◌≤◌, cond, List, [], ◌∷◌, ◌++◌, Some, None, Ok, Err, Option, Result, ◌==◌}
+use Rattle.std.specs.Prelude.{◌≡◌, ℕ, ◌+◌, ◌<◌, ◌≤◌, if◌then◌else◌, List, [], ◌∷◌, ◌++◌, Some, None, Ok, Err, Option, Result, ◌==◌}
 use Rattle.block.specs.declared.Block.{Block}
 use Rattle.refusal.specs.declared.Refusal.{Refusal}
 use Rattle.refusal.specs.declared.Refusal.TheVariants.{NoFreePlace}
@@ -10,7 +10,7 @@ Lists = ℕ → List Block
 
 -- the lists, with l for client c and all others as they are
 abbrev pub updated : Lists → ℕ → List Block → Lists
-updated lists c l k = cond (k == c) l (lists k)
+updated lists c l k = if k == c then l else lists k
 
 abbrev pub first_of : List Block → Option Block
 first_of [] = None

@@ -1,6 +1,6 @@
-// Inlets and outlets: the places where clients' blocks come from and go to, as two traits; a store, which is both, is a third.
-// The meaning of each is a list of blocks for each client, which its calls change and its makers show.
-// Main promise: no call for one client changes another client's list.
+//! Inlets and outlets: the places where clients' blocks come from and go to, as two traits; a store, which is both, is a third.
+//! The meaning of each is a list of blocks for each client, which its calls change and its makers show.
+//! Main promise: no call for one client changes another client's list.
 #![tactic(auto)]
 
 ghost use Rattle.std.specs.Prelude.{◌≡◌};
@@ -11,40 +11,42 @@ use block::Block;
 use numbers::ClientNumber;
 use refusal::Refusal;
 
-// Where a client's blocks wait.
+/// Where a client's blocks wait.
 pub trait Inlet {
     // the blocks that wait, for each client
     ghost waiting: { Self → Lists };
 
-    // The client's first block, which is removed, or none where no block waits.
+    /// The client's first block, which is removed, or none where no block waits.
     fn next(&mut self, client: ClientNumber) -> Option<Block>
         ensures first { result ≡ first_of (waiting self.old client) }
         ensures rest { waiting self.new ≡ taken client (waiting self.old) };
 }
 
-// Where a client's blocks are put, two at a time.
+/// Where a client's blocks are put, two at a time.
 pub trait Outlet {
     // the blocks held and the places free, for each client
     ghost holding: { Self → Holding };
 
-    // The client's free places.
+    /// The client's free places, in blocks.
     fn free(&self, client: ClientNumber) -> usize
         ensures { result ≡ (holding self.now).free client };
 
-    // Appends the pair to the client's list, or refuses it where two places are not free.
+    /// Appends the pair to the client's list, or refuses it with `NoFreePlace` where two places are not free.
     fn put(&mut self, client: ClientNumber, a: Block, b: Block) -> Result<(), Refusal>
         ensures put { Put client a b result (holding self.old) (holding self.new) };
 }
 
-// An inlet and an outlet in one: what it holds for a client is what waits for it.
+/// An inlet and an outlet in one.
 pub trait Store: Inlet + Outlet {
-    // The client's first block, which stays where it is, or none where no block waits.
+    /// The client's first block, which stays where it is, or none where no block waits.
     fn first(&self, client: ClientNumber) -> Option<Block>
-        ensures first { result ≡ first_of (Self.Inlet.waiting self.now client) }
-        ensures one_list { Self.Inlet.waiting self.now ≡ (Self.Outlet.holding self.now).held };
+        ensures { result ≡ first_of (Self.Inlet.waiting self.now client) };
+
+    // what it holds for a client is what waits for it
+    ghost one_list: { (store : Self) → Self.Inlet.waiting store ≡ (Self.Outlet.holding store).held };
 }
 
-// The client's first two blocks, which are removed.
+/// The client's first two blocks, which are removed.
 pub fn next_pair<I: Inlet>(inlet: &mut I, client: ClientNumber) -> (Option<Block>, Option<Block>)
     ensures pair { result ≡ first_two (I.waiting inlet.old client) }
     ensures rest { I.waiting inlet.new ≡ taken client (taken client (I.waiting inlet.old)) }
@@ -54,8 +56,8 @@ pub fn next_pair<I: Inlet>(inlet: &mut I, client: ClientNumber) -> (Option<Block
     (first, second)
 }
 
-// Moves the client's first two blocks from the inlet to the outlet, with the filler for one that is missing.
-// Where two places are not free it is refused, and takes nothing.
+/// Moves the client's first two blocks from the inlet to the outlet, with the filler for one that is missing.
+/// Where two places are not free it is refused with `NoFreePlace`, and takes nothing.
 pub fn move_pair<I: Inlet, O: Outlet>(
     inlet: &mut I,
     outlet: &mut O,

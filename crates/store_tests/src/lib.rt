@@ -22,7 +22,7 @@ mod tests {
     }
 
     impl Keyed for Entry {
-        ghost keyOf = { λ e. e.key };
+        ghost key_of = { λ e. e.key };
 
         fn key(&self) -> u16 {
             self.key

@@ -1,5 +1,6 @@
 -- What a tape means: each client's blocks, in the order of its entries, and the places free for all.
-use Rattle.std.specs.Prelude.{ℕ, ◌+◌, ◌-◌, cond, List, [], ◌∷◌, ◌++◌, Ok, Err, Result, ◌==◌}
+use Rattle.std.specs.Prelude.{ℕ, ◌+◌, ◌-◌, if◌then◌else◌, List, [], ◌∷◌, ◌++◌, Ok, Err, Result, ◌==◌}
+use Rattle.std.specs.Borrow.{GName}
 use Rattle.block.specs.declared.Block.{Block}
 use Rattle.refusal.specs.declared.Refusal.{Refusal}
 use Rattle.port.specs.Model.{Lists, Holding, updated, first_of, taken, given}
@@ -10,7 +11,7 @@ use Rattle.tape.specs.declared.Tape.{Tape}
 -- the blocks that are tagged with client k
 abbrev pub blocks_of : List TaggedBlock → Lists
 blocks_of [] k = []
-blocks_of (e ∷ es) k = cond (e.client == k) (e.block ∷ blocks_of es k) (blocks_of es k)
+blocks_of (e ∷ es) k = if e.client == k then e.block ∷ blocks_of es k else blocks_of es k
 
 abbrev pub tape_lists : Tape → Lists
 tape_lists tape = blocks_of (entries tape.queue)
@@ -18,6 +19,14 @@ tape_lists tape = blocks_of (entries tape.queue)
 -- the free places are the same for every client
 abbrev pub tape_holding : Tape → Holding
 tape_holding tape = record { held = tape_lists tape; free = λ _. free_places tape.queue }
+
+-- what a tape is to its callers: what it holds, and the name of the loan that its places are
+pub record Contents : Type 0 where
+  pub holding : Holding
+  pub lender : GName
+
+abbrev pub contents : Tape → Contents
+contents tape = record { holding = tape_holding tape; lender = tape.queue.places.ghost_name }
 
 -- after a next for client c: the place of the block that is given is free, for every client
 abbrev pub after_next : ℕ → Holding → Holding

@@ -1,5 +1,5 @@
 -- A packet put into an outlet, and taken out of an inlet again.
-use Rattle.std.specs.Prelude.{◌≡◌, ℕ, ◌+◌, ◌/◌, ◌%◌, ◌<◌, ◌≤◌, true, cond, List, ◌++◌, length, replicate, Ok, Err, Result}
+use Rattle.std.specs.Prelude.{◌≡◌, ℕ, ◌+◌, ◌/◌, ◌%◌, ◌<◌, ◌≤◌, true, if◌then◌else◌, List, ◌++◌, length, replicate, Ok, Err, Result}
 use Rattle.block.specs.declared.Block.{Block}
 use Rattle.block.specs.Fixed.{idle_block}
 use Rattle.refusal.specs.declared.Refusal.{Refusal}
@@ -25,7 +25,7 @@ pub record PacketStored (c : ℕ) (p : List ℕ) (blocks : ℕ) (before after : 
 
 -- a packet refused: its length is out of range, or its places are not free; nothing changes
 pub record PacketRefused (c : ℕ) (p : List ℕ) (cause : Refusal) (before after : Holding) : Type 0 where
-  pub number : cause ≡ cond (in_range (length p)) NoFreePlace PacketLength
+  pub number : cause ≡ if in_range (length p) then NoFreePlace else PacketLength
   pub full : in_range (length p) ≡ true → before.free c < evened (length (blocks_of p))
   pub same : after ≡ before
 

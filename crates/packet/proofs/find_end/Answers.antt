@@ -1,9 +1,12 @@
 use Rattle.std.proofs.Common.{◌∙◌, arith}
-use Rattle.packet.proofs.Carried.{walked_more, spans, none_sized, none_other, none_ended}
+use Rattle.packet.proofs.Carried.{walked_more, spans, none_sized, none_other, none_long, none_ended}
 use Rattle.packet.proofs.find_end.Goals as goal
 
 pub loop-whole-preserved : goal.loop-whole-preserved
 loop-whole-preserved c = walked_more c.args.blocks.now c.loop-whole.whole _ (omega arith) c.loop-whole.invariant c.in-Data.ensures.class c.in-Data.ensures.eight
+
+pub returns-then-whole : goal.returns-then-whole
+returns-then-whole c = none_long c.args.blocks.now _ (walked_more c.args.blocks.now c.loop-whole.whole _ (omega arith) c.loop-whole.invariant c.in-Data.ensures.class c.in-Data.ensures.eight) (omega arith)
 
 pub returns-then-is_packet_length : goal.returns-then-is_packet_length
 returns-then-is_packet_length c = spans c.args.blocks.now c.loop-whole.whole c.in-End.left _ (omega arith) c.loop-whole.invariant c.in-End.ensures.class c.in-End.ensures.eight c.if-is_packet_length.ensures

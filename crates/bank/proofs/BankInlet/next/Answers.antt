@@ -1,7 +1,7 @@
-use Rattle.std.proofs.Common.{length, refl, ap, ◌∙◌, arith, rules}
+use Rattle.std.proofs.Common.{length, ap, ◌∙◌, arith, rules}
 use Rattle.port.specs.Model.{Holding}
 use Rattle.bank.specs.Lists.{bank_lists, free_in}
-use Rattle.bank.proofs.Blocks.{nothing_without_places, none_given, none_freed, nothing_counted, first_read_by, first_freed_by}
+use Rattle.bank.proofs.Blocks.{held_by, nothing_without_places, none_given, none_freed, nothing_counted, first_read_by, first_freed_by}
 use Rattle.bank.proofs.BankInlet.next.Goals as goal
 
 pub returns-in_err-start : goal.returns-in_err-start
@@ -11,9 +11,7 @@ returns-in_err-start c =
     record {
       first = c.from_residual.ensures ∙ none_given (bank_lists c.args.self.now) c.args.client e;
       rest = ap (λ (h : Holding). h.held) h;
-      holding = h;
-      areas = refl;
-      lender = refl;
+      contents = ap (held_by _ _) h;
     }
 
 pub returns-then-count-eq0 : goal.returns-then-count-eq0
@@ -23,9 +21,7 @@ returns-then-count-eq0 c =
     record {
       first = none_given (bank_lists c.args.self.now) c.args.client e;
       rest = ap (λ (h : Holding). h.held) h;
-      holding = h;
-      areas = refl;
-      lender = refl;
+      contents = ap (held_by _ _) h;
     }
 
 pub returns : goal.returns
@@ -34,7 +30,5 @@ returns c =
     record {
       first = first_read_by c.args.self.now.width c.args.client c.in_ok-start.start c.args.self.now.memory.now c.args.self.now.rings c.in_ok-start.ensures c.ring-ring.ensures.range c.ring-ring.result c.place.result _ c.ring-ring.ensures.value c.place.ensures (omega arith);
       rest = ap (λ (h : Holding). h.held) h;
-      holding = h;
-      areas = refl;
-      lender = refl;
+      contents = ap (held_by _ _) h;
     }

@@ -1,4 +1,4 @@
-use Rattle.std.proofs.Common.{refl, ◌∙◌, arith}
+use Rattle.std.proofs.Common.{◌∙◌, arith}
 use Rattle.bank.specs.Lists.{bank_lists}
 use Rattle.bank.proofs.Blocks.{nothing_without_places, none_given, nothing_counted, first_read_by}
 use Rattle.bank.proofs.BankStore.first.Goals as goal
@@ -6,15 +6,12 @@ use Rattle.bank.proofs.BankStore.first.Goals as goal
 pub returns-in_err-start : goal.returns-in_err-start
 returns-in_err-start c =
     let e = nothing_without_places c.args.self.now.width c.args.client c.args.self.now.memory.now c.args.self.now.rings c.in_err-start.ensures in
-    record { first = c.from_residual.ensures ∙ none_given (bank_lists c.args.self.now) c.args.client e; one_list = refl }
+    c.from_residual.ensures ∙ none_given (bank_lists c.args.self.now) c.args.client e
 
 pub returns-then-min-eq0 : goal.returns-then-min-eq0
 returns-then-min-eq0 c =
     let e = nothing_counted c.args.self.now.width c.args.client c.in_ok-start.start c.args.self.now.memory.now c.args.self.now.rings c.in_ok-start.ensures c.ring-ring.ensures.range c.ring-ring.result c.min.result c.ring-ring.ensures.value c.min.ensures (omega arith) in
-    record { first = none_given (bank_lists c.args.self.now) c.args.client e; one_list = refl }
+    none_given (bank_lists c.args.self.now) c.args.client e
 
 pub returns : goal.returns
-returns c = record {
-  first = first_read_by c.args.self.now.width c.args.client c.in_ok-start.start c.args.self.now.memory.now c.args.self.now.rings c.in_ok-start.ensures c.ring-ring.ensures.range c.ring-ring.result c.place.result _ c.ring-ring.ensures.value c.place.ensures (omega arith);
-  one_list = refl;
-}
+returns c = first_read_by c.args.self.now.width c.args.client c.in_ok-start.start c.args.self.now.memory.now c.args.self.now.rings c.in_ok-start.ensures c.ring-ring.ensures.range c.ring-ring.result c.place.result _ c.ring-ring.ensures.value c.place.ensures (omega arith)

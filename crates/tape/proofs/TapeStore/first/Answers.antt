@@ -1,16 +1,10 @@
-use Rattle.std.proofs.Common.{refl}
+use Rattle.std.proofs.Common.{◌∙◌}
 use Rattle.queue.specs.Entries.{entries}
 use Rattle.tape.proofs.Tagged.{first_block}
 use Rattle.tape.proofs.TapeStore.first.Goals as goal
 
-pub returns-in-Some : goal.returns-in-Some
-returns-in-Some c = record {
-  first = first_block (entries c.args.self.now.queue) c.args.client c.number.result _ c.number.ensures.value c.in-Some.ensures;
-  one_list = refl;
-}
+pub returns : goal.returns
+returns c = first_block (entries c.args.self.now.queue) c.args.client c.number.result _ c.number.ensures.value c.in_ok-entry.ensures
 
-pub returns-in-None : goal.returns-in-None
-returns-in-None c = record {
-  first = first_block (entries c.args.self.now.queue) c.args.client c.number.result _ c.number.ensures.value c.in-None.ensures;
-  one_list = refl;
-}
+pub returns-in_err-entry : goal.returns-in_err-entry
+returns-in_err-entry c = c.from_residual.ensures ∙ first_block (entries c.args.self.now.queue) c.args.client c.number.result _ c.number.ensures.value c.in_err-entry.ensures
