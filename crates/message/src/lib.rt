@@ -224,8 +224,8 @@ fn write_blocks(kind: Kind, values: &[u8], output: &mut [Block])
     ensures { output.new ≡ message_blocks kind (filled values.now) ++ drop (blocks_of kind) output.old }
 {
     let last = kind.blocks() - 1;
-    for i in 0..last {
-        output[i] = message_block(kind, i == 0, false, values[2 * i], values[2 * i + 1]);
+    for (i, pair) in values.chunks_exact(2).take(last).enumerate() {
+        output[i] = message_block(kind, i == 0, false, pair[0], pair[1]);
     }
     let [first, second] = last_values(values);
     output[last] = message_block(kind, last == 0, true, first, second);
