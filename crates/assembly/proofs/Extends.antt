@@ -1,5 +1,5 @@
 -- A message with one more block.
-use Rattle.std.proofs.Common.{◌≡◌, ℕ, suc, ◌+◌, ◌-◌, ◌*◌, ◌<◌, Bool, true, false, cond, eqb, List, [], ◌∷◌, ◌++◌, length, replicate, take, set, Ok, Err, sym, ap, ◌∙◌, ap₂, append_assoc, arith, length-append}
+use Rattle.std.proofs.Common.{◌≡◌, ℕ, suc, ◌+◌, ◌-◌, ◌*◌, ◌<◌, Bool, true, false, cond, eqb, List, [], ◌∷◌, ◌++◌, length, replicate, take, set, None, sym, refl, ap, ◌∙◌, ap₂, append_assoc, arith, length-append}
 use Rattle.std.proofs.lemmas.List.{set_at, take_at}
 use Rattle.std.proofs.lemmas.Bool.Decides.{nat_tests}
 use Rattle.std.proofs.lemmas.Bool.{eq-eqb, ne_eqb}
@@ -10,11 +10,9 @@ use Rattle.message.specs.declared.Kind.{Kind}
 use Rattle.message.specs.declared.MessageBlock.{MessageBlock}
 use Rattle.message.specs.Kinds.{blocks_of}
 use Rattle.message.proofs.Tails.{take_bits}
-use Rattle.assembly.specs.declared.Next.TheVariants.{Going, Whole}
-use Rattle.assembly.specs.declared.AssemblyError.TheVariants.{OutOfSequence, WrongRemainder}
 use Rattle.assembly.specs.Content.{Content, stored}
 use Rattle.assembly.specs.Sizes.{few_blocks, two_each}
-use Rattle.assembly.specs.Next.{extended, followed, judged, tested}
+use Rattle.assembly.specs.Next.{Outcome, broken, going, wrong, whole, left, extended, followed, judged, tested}
 
 -- the values in memory after one more block
 put : (k : Kind) (b x y : ℕ) (vs : List ℕ) → b < blocks_of k → vs ≡ stored (take (2 * b) vs)
@@ -69,16 +67,24 @@ pub at_end : (u : Content) (m : MessageBlock) (b : ℕ) → length u.values ≡ 
 at_end u m b l e t = judged_is u m b true true l e (eq-eqb (b + 1) (blocks_of u.kind) t)
 
 pub not_yet : (u : Content) (m : MessageBlock) (b : ℕ) → length u.values ≡ 2 * b → m.ends ≡ false → (b + 1 ≡ blocks_of u.kind → ⊥)
-    → Ok (Going (followed u m)) ≡ extended u m
+    → going (followed u m) ≡ extended u m
 not_yet u m b l e t = judged_is u m b false false l e (ne_eqb (b + 1) (blocks_of u.kind) t)
 
 pub too_early : (u : Content) (m : MessageBlock) (b : ℕ) → length u.values ≡ 2 * b → m.ends ≡ true → (b + 1 ≡ blocks_of u.kind → ⊥)
-    → Err OutOfSequence ≡ extended u m
+    → broken ≡ extended u m
 too_early u m b l e t = judged_is u m b true false l e (ne_eqb (b + 1) (blocks_of u.kind) t)
 
 pub missing : (u : Content) (m : MessageBlock) (b : ℕ) → length u.values ≡ 2 * b → m.ends ≡ false → b + 1 ≡ blocks_of u.kind
-    → Err OutOfSequence ≡ extended u m
+    → broken ≡ extended u m
 missing u m b l e t = judged_is u m b false true l e (eq-eqb (b + 1) (blocks_of u.kind) t)
+
+-- nothing is left of a message all of whose blocks have come
+pub left_tested : (u : Content) → left (tested u) ≡ None
+left_tested u = go (eqb (crc12 (bits u.values)) 0)
+  where
+    go : (t : Bool) → left (cond t (whole u) wrong) ≡ None
+    go true = refl
+    go false = refl
 
 -- what the remainder is of
 field_all : (vs : List ℕ) (n : ℕ) → field vs 0 (16 * n) ≡ bits (take (2 * n) vs)
@@ -88,8 +94,8 @@ pub remainder_is : (vs : List ℕ) (r n d t : ℕ) → r ≡ remainder d t (fiel
     → r ≡ crc12 (bits (take (2 * n) vs))
 remainder_is vs r n d t e f g = e ∙ ap₂ (λ (w G : ℕ). remainder w G (field vs 0 (16 * n))) f g ∙ ap crc12 (field_all vs n)
 
-pub is_whole : (u : Content) (r : ℕ) → r ≡ crc12 (bits u.values) → r ≡ 0 → Ok (Whole u) ≡ tested u
-is_whole u r e z = sym (ap (λ (t : Bool). cond t (Ok (Whole u)) (Err WrongRemainder)) (eq-eqb (crc12 (bits u.values)) 0 (sym e ∙ z)))
+pub is_whole : (u : Content) (r : ℕ) → r ≡ crc12 (bits u.values) → r ≡ 0 → whole u ≡ tested u
+is_whole u r e z = sym (ap (λ (t : Bool). cond t (whole u) wrong) (eq-eqb (crc12 (bits u.values)) 0 (sym e ∙ z)))
 
-pub is_wrong : (u : Content) (r : ℕ) → r ≡ crc12 (bits u.values) → (r ≡ 0 → ⊥) → Err WrongRemainder ≡ tested u
-is_wrong u r e z = sym (ap (λ (t : Bool). cond t (Ok (Whole u)) (Err WrongRemainder)) (ne_eqb (crc12 (bits u.values)) 0 (λ f. z (e ∙ f))))
+pub is_wrong : (u : Content) (r : ℕ) → r ≡ crc12 (bits u.values) → (r ≡ 0 → ⊥) → wrong ≡ tested u
+is_wrong u r e z = sym (ap (λ (t : Bool). cond t (whole u) wrong) (ne_eqb (crc12 (bits u.values)) 0 (λ f. z (e ∙ f))))

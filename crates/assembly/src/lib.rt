@@ -1,12 +1,13 @@
 //! A path message as it is put together from its blocks, one after the other.
 //! The end mark must stand on the last block of the kind and on no other, and the whole message must leave the remainder 0.
-//! Main promise: `outcome` answers exactly what the definition `next_of` makes of the message so far and the block.
+//! Main promise: `take` leaves and answers exactly what the definition `next_of` makes of the message so far and the block.
 #![tactic(auto)]
 
-ghost use Rattle.std.specs.Prelude.{◌≡◌, [], ◌∷◌, take, Some};
+ghost use Rattle.std.specs.Prelude.{◌≡◌, ◌*◌, [], ◌∷◌, length, take};
+ghost use Rattle.message.specs.Kinds.{blocks_of};
 ghost use Rattle.message.specs.declared.Kind.TheVariants.{Basic};
 ghost use Rattle.assembly.specs.Content.{stored};
-ghost use Rattle.assembly.specs.Next.{began, continued, extended, next_of, tested};
+ghost use Rattle.assembly.specs.Next.{answered, began, extended, left, next_of, resumed, tested};
 
 use crc::Generator;
 use message::{Kind, MessageBlock};
@@ -64,13 +65,6 @@ impl Model for Message {
     ghost inverse = { λ c. record { kind = c.kind; values = stored c.values } };
 }
 
-/// What a block leaves of the message that it belongs to: one that more blocks are to follow, or a whole one.
-#[derive(Clone, Copy)]
-pub enum Next {
-    Going(Unfinished),
-    Whole(Message),
-}
-
 /// Why a message is dropped at a block.
 #[derive(Clone, Copy, Debug, PartialEq, Eq)]
 pub enum AssemblyError {
@@ -93,35 +87,44 @@ impl Unfinished {
     }
 
     // The message with one more block; the end mark must stand on its last block and on no other.
-    fn extend(self, block: MessageBlock) -> Result<Next, AssemblyError>
-        ensures { result ≡ extended self block }
+    // It is left in the collection if more are to follow, and answered if it is whole.
+    fn extend(
+        self,
+        block: MessageBlock,
+        collection: &mut Option<Unfinished>,
+    ) -> Result<Option<Message>, AssemblyError>
+        ensures collection { collection.new ≡ left (extended self block) }
+        ensures answer { result ≡ answered (extended self block) }
     {
         let kind = self.kind;
         let blocks = self.blocks + 1;
         let mut values = self.values;
         values[2 * self.blocks] = block.first;
         values[2 * self.blocks + 1] = block.second;
+        *collection = None;
         match (block.ends, blocks == kind.blocks()) {
-            (false, false) => Ok(Next::Going(Unfinished {
-                kind,
-                blocks,
-                values,
-            })),
+            (false, false) => {
+                *collection = Some(Unfinished {
+                    kind,
+                    blocks,
+                    values,
+                });
+                Ok(None)
+            }
             (true, true) => Message { kind, values }.test(),
             (true, false) => Err(AssemblyError::OutOfSequence),
             (false, true) => Err(AssemblyError::OutOfSequence),
         }
     }
+}
 
-    // The same, if the block is of the message's kind.
-    fn resume(self, kind: Kind, block: MessageBlock) -> Result<Next, AssemblyError>
-        ensures { result ≡ continued kind (Some self) block }
-    {
-        if self.kind == kind {
-            self.extend(block)
-        } else {
-            Err(AssemblyError::OutOfSequence)
-        }
+// The message with which a block goes on that has no start mark: the one that is collected, if it is of the block's kind.
+fn resumed(collection: Option<Unfinished>, kind: Kind) -> Result<Unfinished, AssemblyError>
+    ensures { result ≡ resumed kind collection }
+{
+    match collection {
+        Some(unfinished) if unfinished.kind == kind => Ok(unfinished),
+        _ => Err(AssemblyError::OutOfSequence),
     }
 }
 
@@ -154,12 +157,12 @@ impl Message {
     }
 
     // A message all of whose blocks have come is whole if its bits leave the remainder 0.
-    fn test(self) -> Result<Next, AssemblyError>
-        ensures { result ≡ tested self }
+    fn test(self) -> Result<Option<Message>, AssemblyError>
+        ensures { result ≡ answered (tested self) }
     {
         let bits = 16 * self.kind.blocks();
         if Generator::degree_twelve().remainder(&self.values, 0, bits) == 0 {
-            Ok(Next::Whole(self))
+            Ok(Some(self))
         } else {
             Err(AssemblyError::WrongRemainder)
         }
@@ -167,7 +170,8 @@ impl Message {
 
     /// The first eight value bytes, with zeros where there are fewer: in a delay message the time at which it was sent.
     pub fn time(&self) -> [u8; 8]
-        ensures { result ≡ take 8 (stored self.now.values) }
+        ensures time { result ≡ take 8 (stored self.now.values) }
+        ensures two_a_block { length self.now.values ≡ 2 * blocks_of self.now.kind }
     {
         let mut time = [0; 8];
         time.copy_from_slice(&self.values[0..8]);
@@ -175,18 +179,18 @@ impl Message {
     }
 }
 
-/// What a block makes of its collection: it begins a message, or goes on with one of its kind.
-pub fn outcome(
-    collection: Option<Unfinished>,
+/// Takes a block into its collection: it begins a message, or goes on with one of its kind.
+/// The message is answered once it is whole; it is dropped at an error. Either way it is no longer collected.
+pub fn take(
+    collection: &mut Option<Unfinished>,
     kind: Kind,
     block: MessageBlock,
-) -> Result<Next, AssemblyError>
-    ensures { result ≡ next_of kind collection block }
+) -> Result<Option<Message>, AssemblyError>
+    ensures collection { collection.new ≡ left (next_of kind collection.old block) }
+    ensures answer { result ≡ answered (next_of kind collection.old block) }
 {
     if block.starts {
-        return Unfinished::begin(kind).extend(block);
+        return Unfinished::begin(kind).extend(block, collection);
     }
-    collection
-        .ok_or(AssemblyError::OutOfSequence)?
-        .resume(kind, block)
+    resumed(collection.take(), kind)?.extend(block, collection)
 }
