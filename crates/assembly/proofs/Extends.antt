@@ -12,7 +12,7 @@ use Rattle.message.specs.Kinds.{blocks_of}
 use Rattle.message.proofs.Tails.{take_bits}
 use Rattle.assembly.specs.Content.{Content, stored}
 use Rattle.assembly.specs.Sizes.{few_blocks, two_each}
-use Rattle.assembly.specs.Next.{Outcome, broken, going, wrong, whole, left, extended, followed, judged, tested}
+use Rattle.assembly.specs.Next.{broken, going, wrong, whole, left, extended, followed, judged, tested}
 
 -- the values in memory after one more block
 put : (k : Kind) (b x y : ℕ) (vs : List ℕ) → b < blocks_of k → vs ≡ stored (take (2 * b) vs)

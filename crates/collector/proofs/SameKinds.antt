@@ -1,5 +1,5 @@
 -- When two kinds are the same.
-use Rattle.std.proofs.Common.{◌≡◌, Bool, true, false, sym, refl, ap, ◌∙◌}
+use Rattle.std.proofs.Common.{◌≡◌, true, sym, refl, ap, ◌∙◌}
 use Rattle.message.specs.declared.Kind.{Kind}
 use Rattle.message.specs.declared.Kind.TheVariants.{Basic, Aps, Cv, OneDm, TwoDmm, TwoDmr, Cs}
 use Rattle.assembly.specs.Next.{same_kind}
@@ -15,12 +15,3 @@ same_true a b e = ap (λ (k : Kind). same_kind a k) (sym e) ∙ refls a
     refls TwoDmm = refl
     refls TwoDmr = refl
     refls Cs = refl
-
-pub same_false : (k : Kind) → (k ≡ TwoDmm → ⊥) → same_kind k TwoDmm ≡ false
-same_false Basic h = refl
-same_false Aps h = refl
-same_false Cv h = refl
-same_false OneDm h = refl
-same_false TwoDmm h = absurd (h refl)
-same_false TwoDmr h = refl
-same_false Cs h = refl

@@ -1,5 +1,6 @@
 -- A block at which a message is whole.
-use Rattle.std.proofs.Common.{◌≡◌, ℕ, Bool, true, false, ◌||◌, Some, None, Ok, Err, Option, refl, ap, ◌∙◌, ap₂, sym, arith}
+use Rattle.std.proofs.Common.{◌≡◌, Bool, ◌||◌, Some, Ok, Option, ap, ◌∙◌, ap₂, sym}
+use Rattle.std.proofs.Math.Bool.{or-false}
 use Rattle.message.specs.declared.Kind.{Kind}
 use Rattle.collector.specs.declared.Report.{Report}
 use Rattle.assembly.specs.Content.{Content}
@@ -19,14 +20,10 @@ whole_settled k s o u x a e =
     let is : o ≡ whole u = whole_is o u a in
     ap (λ (y : Option Content). kept u (held k y s)) (e ∙ ap left is) ∙ sym (ap (λ (p : Outcome). settled k p s) is)
 
-or_false : (t : Bool) → t ≡ (t || false)
-or_false true = refl
-or_false false = refl
-
 pub whole_reported : (o : Outcome) (u : Content) (k : Kind) (t f : Bool) → answered o ≡ Ok (Some u) → k ≡ u.kind → f ≡ t
     → ◌≡◌ {A = Report} (record { broken = f; found = Ok (Some k) }) (record { broken = t || is_broken o; found = found_of o })
 whole_reported o u k t f a e g =
     let is : o ≡ whole u = whole_is o u a in
     let made : Bool → Kind → Report = λ f k. record { broken = f; found = Ok (Some k) } in
     let at : Outcome → Report = λ p. record { broken = t || is_broken p; found = found_of p } in
-    ap₂ made (g ∙ or_false t) e ∙ sym (ap at is)
+    ap₂ made (g ∙ sym (or-false t)) e ∙ sym (ap at is)

@@ -54,7 +54,7 @@ impl Model for Collector {
     ghost view = { λ c. record { aps = c.aps; low = c.low; kept = c.kept; question = c.question } };
 }
 
-// The place of a kind among the messages kept.
+// The place of a kind among the messages kept; an array by kind, since there is no heap here for a map.
 fn place(kind: Kind) -> usize
     ensures { result ≡ place_of kind }
 {

@@ -1,5 +1,6 @@
 -- The writer's answer and output, case by case; and its loop.
 use Rattle.std.proofs.Common.{◌≡◌, ℕ, zero, suc, ◌+◌, ◌-◌, ◌*◌, ◌<◌, ◌≤◌, Bool, true, false, cond, eqb, leb, List, [], ◌∷◌, ◌++◌, length, get_or, take, drop, set, Ok, Err, Result, sym, ap, ◌∙◌, ap₂, arith}
+use Rattle.std.proofs.lemmas.Bool.{le-leb, lt-leb}
 use Rattle.std.proofs.lemmas.Bool.Decides.{nat_tests}
 use Rattle.std.proofs.lemmas.List.{length-take-le, length-drop}
 use Rattle.refusal.specs.declared.Refusal.{Refusal}
@@ -13,34 +14,28 @@ use Rattle.message.specs.Values.{filled, lawful}
 use Rattle.message.specs.Written.{answer, written, block_at, message_blocks}
 use Rattle.message.proofs.Pairs.{put_pair, take_two, front_pair}
 
-not_within : (n m : ℕ) → m < n → leb n m ≡ false
-not_within n m h = grind (arith, nat_tests)
-
-within : (n m : ℕ) → n ≤ m → leb n m ≡ true
-within n m h = grind (arith, nat_tests)
-
 choice : Kind → List Block → Bool → Bool → Result ℕ Refusal
 choice k out x y = cond x (cond y (Ok (blocks_of k)) (Err OutputTooShort)) (Err MessageInvalid)
 
 pub answer_short : (k : Kind) (vs : List ℕ) (out : List Block) → lawful k vs ≡ true → length out < blocks_of k → Err OutputTooShort ≡ answer k vs out
 unfolding choice
-answer_short k vs out e h = sym (ap₂ (choice k out) e (not_within (blocks_of k) (length out) h))
+answer_short k vs out e h = sym (ap₂ (choice k out) e (lt-leb (blocks_of k) (length out) h))
 
 pub answer_ok : (k : Kind) (vs : List ℕ) (out : List Block) → lawful k vs ≡ true → blocks_of k ≤ length out → Ok (blocks_of k) ≡ answer k vs out
 unfolding choice
-answer_ok k vs out e h = sym (ap₂ (choice k out) e (within (blocks_of k) (length out) h))
+answer_ok k vs out e h = sym (ap₂ (choice k out) e (le-leb (blocks_of k) (length out) h))
 
 result : Kind → List ℕ → List Block → Bool → Bool → List Block
 result k vs out x y = cond x (cond y (message_blocks k (filled vs) ++ drop (blocks_of k) out) out) out
 
 pub written_short : (k : Kind) (vs : List ℕ) (out : List Block) → lawful k vs ≡ true → length out < blocks_of k → out ≡ written k vs out
 unfolding result
-written_short k vs out e h = sym (ap₂ (result k vs out) e (not_within (blocks_of k) (length out) h))
+written_short k vs out e h = sym (ap₂ (result k vs out) e (lt-leb (blocks_of k) (length out) h))
 
 pub written_ok : (k : Kind) (vs : List ℕ) (out : List Block) → lawful k vs ≡ true → blocks_of k ≤ length out
     → message_blocks k (filled vs) ++ drop (blocks_of k) out ≡ written k vs out
 unfolding result
-written_ok k vs out e h = sym (ap₂ (result k vs out) e (within (blocks_of k) (length out) h))
+written_ok k vs out e h = sym (ap₂ (result k vs out) e (le-leb (blocks_of k) (length out) h))
 
 -- what lawful values are
 pub lawful_length : (k : Kind) (vs : List ℕ) → lawful k vs ≡ true → length vs ≡ 2 * blocks_of k

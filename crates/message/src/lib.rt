@@ -124,8 +124,10 @@ impl From<UnknownKind> for Refusal {
 #[derive(Clone, Copy)]
 pub struct MessageBlock {
     pub kind: Option<Kind>,
+    /// Whether it has the start mark, and the end mark.
     pub starts: bool,
     pub ends: bool,
+    /// Its two value bytes.
     pub first: u8,
     pub second: u8,
 }
@@ -150,7 +152,7 @@ pub fn read(block: &Block) -> Option<MessageBlock>
     }
 }
 
-// One block of a message.
+// One block of a message. It takes five values, since a `MessageBlock` may be of an unknown kind and this one is not.
 fn message_block(kind: Kind, starts: bool, ends: bool, first: u8, second: u8) -> Block
     ensures { result ≡ message_block kind starts ends first second }
 {

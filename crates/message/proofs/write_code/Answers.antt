@@ -1,7 +1,5 @@
-use Rattle.std.proofs.Common.{◌≡◌, List, Some, None, Ok, Option, Result, sym, ap, ◌∙◌}
+use Rattle.std.proofs.Common.{◌≡◌, Some, None, Ok, Option, Result, sym, ap, ◌∙◌}
 use Rattle.std.specs.Option.{ok_or}
-use Rattle.refusal.specs.declared.Refusal.{Refusal}
-use Rattle.block.specs.declared.Block.{Block}
 use Rattle.message.specs.declared.Kind.{Kind}
 use Rattle.message.specs.declared.UnknownKind.{UnknownKind}
 use Rattle.message.specs.Kinds.{kind_of}

@@ -1,7 +1,7 @@
-use Rattle.std.proofs.Common.{◌≡◌, ℕ, List, [], ◌∷◌, ◌++◌, ◌<◌, get_or, Some, Option, refl, subst, ap, ◌∙◌, rules}
+use Rattle.std.proofs.Common.{◌≡◌, ℕ, List, [], ◌∷◌, ◌++◌, ◌<◌, get_or, Some, refl, ap, rules}
 use Rattle.std.proofs.lemmas.List.{take_all}
 use Rattle.std.proofs.Output.{has_written_append, has_written_of_eq, writes_in_calls_nil}
-use Rattle.std.specs.Fmt.{DisplaysOnOk, HasWritten, option_append}
+use Rattle.std.specs.Fmt.{HasWritten, option_append}
 use Rattle.value_text.specs.Texts.{hex_byte, hex_of}
 use Rattle.value_text.proofs.HexTexts.{byte_output, one_more}
 use Rattle.value_text.proofs.write_hex.Goals as goal

@@ -1,4 +1,4 @@
-use Rattle.std.proofs.Common.{◌≡◌, ℕ, ◌*◌, take, ap, ◌∙◌}
+use Rattle.std.proofs.Common.{ℕ, ◌*◌, take, ap, ◌∙◌}
 use Rattle.crc.specs.Bits.{bits}
 use Rattle.message.specs.Values.{crc12}
 use Rattle.assembly.specs.Content.{Content}

@@ -1,4 +1,4 @@
-use Rattle.std.proofs.Common.{◌≡◌, Bool, ◌&&◌, ◌||◌, is_some, Some, Ok, Option, Result, sym, ap, ◌∙◌, rules}
+use Rattle.std.proofs.Common.{◌≡◌, ◌&&◌, ◌||◌, is_some, Some, Ok, Option, Result, sym, ap, ◌∙◌, rules}
 use Rattle.assembly.specs.declared.AssemblyError.{AssemblyError}
 use Rattle.assembly.specs.Content.{Content}
 use Rattle.assembly.specs.Next.{Outcome, answered, next_of}
