@@ -1,6 +1,6 @@
 //! A question of two-way delay that a collector has handed out.
 //! It can be neither let fall nor used twice: a value of this type has to be answered or declined, for it is dropped only once it is settled.
-ghost use Rattle.std.specs.Prelude.{◌≡◌, ℕ, List, Ok, Err, IsFalse, IsTrue, Result, MatchResult};
+ghost use Rattle.std.specs.Prelude.{◌≡◌, ℕ, List, Ok, Err, IfErr, IsFalse, IsTrue, OnOk, Result};
 ghost use Rattle.refusal.specs.declared.Refusal.{Refusal as Cause};
 ghost use Rattle.collector.specs.Reply.{reply_values, RepliesLawful};
 
@@ -75,7 +75,9 @@ impl Question {
         sent: [u8; 8],
         sender: &mut S,
     ) -> Result<(), (Refusal, Question)>
-        ensures taken { MatchResult result (λ _. S.left sender.old (reply_values self.time received sent) (Ok tt) sender.new) (λ e. (e.1 ≡ self) × S.left sender.old (reply_values self.time received sent) (Err e.0) sender.new) }
+        ensures taken { OnOk result (S.left sender.old (reply_values self.time received sent) (Ok tt) sender.new) }
+        ensures refused { IfErr result (λ e. S.left sender.old (reply_values self.time received sent) (Err e.0) sender.new) }
+        ensures back { IfErr result (λ e. e.1 ≡ self) }
         ensures lawful { RepliesLawful }
     {
         match sender.leave(&reply_values(&self.time, &received, &sent)) {
