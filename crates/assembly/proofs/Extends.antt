@@ -1,27 +1,54 @@
--- A message in memory with one more block.
-use Rattle.std.proofs.Common.{◌≡◌, ℕ, ◌+◌, ◌-◌, ◌*◌, ◌<◌, ◌≤◌, Bool, true, false, cond, eqb, List, [], ◌∷◌, ◌++◌, length, take, set, sym, ap, ◌∙◌, ap₂, append_assoc, arith}
-use Rattle.std.proofs.lemmas.List.{take_more_set, length-set, length-append, length-take-le}
+-- A message with one more block.
+use Rattle.std.proofs.Common.{◌≡◌, ℕ, suc, ◌+◌, ◌-◌, ◌*◌, ◌<◌, Bool, true, false, cond, eqb, List, [], ◌∷◌, ◌++◌, length, replicate, take, set, None, sym, refl, ap, ◌∙◌, ap₂, append_assoc, arith, length-append}
+use Rattle.std.proofs.lemmas.List.{set_at, take_at}
 use Rattle.std.proofs.lemmas.Bool.Decides.{nat_tests}
 use Rattle.std.proofs.lemmas.Bool.{eq-eqb, ne_eqb}
 use Rattle.crc.specs.Bits.{bits, field}
 use Rattle.crc.specs.Remainder.{remainder}
 use Rattle.message.specs.Values.{crc12}
 use Rattle.message.specs.declared.Kind.{Kind}
-use Rattle.message.specs.declared.Kind.TheVariants.{Basic, Aps, Cv, OneDm, TwoDmm, TwoDmr, Cs}
 use Rattle.message.specs.declared.MessageBlock.{MessageBlock}
 use Rattle.message.specs.Kinds.{blocks_of}
 use Rattle.message.proofs.Tails.{take_bits}
-use Rattle.assembly.specs.declared.unfinished.Unfinished.{Unfinished}
-use Rattle.assembly.specs.declared.Message.{Message}
-use Rattle.assembly.specs.Content.{content_of, whole_of, broken, going, whole, wrong}
-use Rattle.assembly.specs.Next.{extended, followed, judged, tested}
+use Rattle.assembly.specs.Content.{Content, stored}
+use Rattle.assembly.specs.Sizes.{few_blocks, two_each}
+use Rattle.assembly.specs.Next.{broken, going, wrong, whole, left, extended, followed, judged, tested}
 
-pub two_set : (vs : List ℕ) (b x y : ℕ) → 2 * b + 1 < length vs → take (2 * (b + 1)) (set (set vs (2 * b) x) (2 * b + 1) y) ≡ take (2 * b) vs ++ x ∷ y ∷ []
-two_set vs b x y h =
-    ap (λ (n : ℕ). take n (set (set vs (2 * b) x) (2 * b + 1) y)) (let e : 2 * (b + 1) ≡ 2 * b + 1 + 1 = omega arith in e)
-    ∙ take_more_set (set vs (2 * b) x) (2 * b + 1) y (omega (arith, length-set vs (2 * b) x))
-    ∙ ap (λ (l : List ℕ). l ++ y ∷ []) (take_more_set vs (2 * b) x (omega arith))
-    ∙ append_assoc (take (2 * b) vs) (x ∷ []) (y ∷ [])
+-- the values in memory after one more block
+put : (k : Kind) (b x y : ℕ) (vs : List ℕ) → b < blocks_of k → vs ≡ stored (take (2 * b) vs)
+    → set (set vs (2 * b) x) (2 * b + 1) y ≡ stored (take (2 * b) vs ++ x ∷ y ∷ [])
+put k b x y vs h e =
+    let front : List ℕ = take (2 * b) vs in
+    let long : length front ≡ 2 * b = two_each k b vs h e in
+    let m : ℕ = 32 - 2 * b in
+    let rest : List ℕ = replicate m 0 in
+    let few = few_blocks k in
+    let left : 34 - length front ≡ suc (suc m) = omega arith in
+    let all : length (front ++ x ∷ y ∷ []) ≡ 2 * b + 2 = length-append front (x ∷ y ∷ []) ∙ ap (λ (n : ℕ). n + 2) long in
+    let one : length (front ++ x ∷ []) ≡ 2 * b + 1 = length-append front (x ∷ []) ∙ ap (λ (n : ℕ). n + 1) long in
+    let behind : m ≡ 34 - length (front ++ x ∷ y ∷ []) = omega arith in
+    ap (λ (l : List ℕ). set (set l (2 * b) x) (2 * b + 1) y) (e ∙ ap (λ (n : ℕ). front ++ replicate n 0) left)
+    ∙ ap (λ (l : List ℕ). set l (2 * b + 1) y)
+    (set_at front 0 (0 ∷ rest) x (2 * b) long ∙ sym (append_assoc front (x ∷ []) (0 ∷ rest)))
+    ∙ set_at (front ++ x ∷ []) 0 rest y (2 * b + 1) one
+    ∙ append_assoc front (x ∷ []) (y ∷ rest)
+    ∙ sym (append_assoc front (x ∷ y ∷ []) rest)
+    ∙ ap (λ (n : ℕ). (front ++ x ∷ y ∷ []) ++ replicate n 0) behind
+
+-- of these bytes, those that have come
+pub taken : (k : Kind) (b n x y : ℕ) (vs : List ℕ) → b < blocks_of k → vs ≡ stored (take (2 * b) vs) → n ≡ b + 1
+    → take (2 * n) (set (set vs (2 * b) x) (2 * b + 1) y) ≡ take (2 * b) vs ++ x ∷ y ∷ []
+taken k b n x y vs h e f =
+    let front : List ℕ = take (2 * b) vs in
+    let all : length (front ++ x ∷ y ∷ []) ≡ 2 * n
+    = length-append front (x ∷ y ∷ []) ∙ ap (λ (n : ℕ). n + 2) (two_each k b vs h e) ∙ (let z : 2 * b + 2 ≡ 2 * n = omega arith in z) in
+    ap (take (2 * n)) (put k b x y vs h e)
+    ∙ take_at (front ++ x ∷ y ∷ []) (replicate (34 - length (front ++ x ∷ y ∷ [])) 0) (2 * n) all
+
+-- zeros stand behind them again
+pub still_stored : (k : Kind) (b n x y : ℕ) (vs : List ℕ) → b < blocks_of k → vs ≡ stored (take (2 * b) vs) → n ≡ b + 1
+    → set (set vs (2 * b) x) (2 * b + 1) y ≡ stored (take (2 * n) (set (set vs (2 * b) x) (2 * b + 1) y))
+still_stored k b n x y vs h e f = put k b x y vs h e ∙ sym (ap stored (taken k b n x y vs h e f))
 
 pub last_test : (us : List ℕ) (b n x y : ℕ) → length us ≡ 2 * b → eqb (length (us ++ x ∷ y ∷ [])) (2 * n) ≡ eqb (b + 1) n
 last_test us b n x y h = ap (λ (m : ℕ). eqb m (2 * n)) (length-append us (x ∷ y ∷ [])) ∙ go (length us + 2) (b + 1) (omega arith)
@@ -29,62 +56,46 @@ last_test us b n x y h = ap (λ (m : ℕ). eqb m (2 * n)) (length-append us (x �
     go : (m k : ℕ) → m ≡ 2 * k → eqb m (2 * n) ≡ eqb k n
     go m k e = grind (arith, nat_tests)
 
-pub few_blocks : (k : Kind) → blocks_of k ≤ 17
-few_blocks Basic = omega arith
-few_blocks Aps = omega arith
-few_blocks Cv = omega arith
-few_blocks OneDm = omega arith
-few_blocks TwoDmm = omega arith
-few_blocks TwoDmr = omega arith
-few_blocks Cs = omega arith
-
-pub extended_is : (u : Unfinished) (m : MessageBlock) → length u.values ≡ 34
-    → judged (followed (content_of u) m) m.ends (eqb (u.blocks + 1) (blocks_of u.kind)) ≡ extended (content_of u) m
-extended_is u m l =
-    ap (judged (followed (content_of u) m) m.ends)
-    (sym (last_test (take (2 * u.blocks) u.values) u.blocks (blocks_of u.kind) m.first m.second
-    (length-take-le (2 * u.blocks) u.values (omega (arith, u.short, few_blocks u.kind)))))
-
 -- the tests of the end mark
-pub at_end : (u : Unfinished) (m : MessageBlock) (n : ℕ) → length u.values ≡ 34 → m.ends ≡ true → u.blocks + 1 ≡ n → n ≡ blocks_of u.kind
-    → tested (followed (content_of u) m) ≡ extended (content_of u) m
-at_end u m n l e t f =
-    sym (ap₂ (judged (followed (content_of u) m)) e (eq-eqb (u.blocks + 1) (blocks_of u.kind) (t ∙ f))) ∙ extended_is u m l
+judged_is : (u : Content) (m : MessageBlock) (b : ℕ) (e last : Bool) → length u.values ≡ 2 * b → m.ends ≡ e → eqb (b + 1) (blocks_of u.kind) ≡ last
+    → judged (followed u m) e last ≡ extended u m
+judged_is u m b e last l t f =
+    ap₂ (judged (followed u m)) (sym t) (sym f ∙ sym (last_test u.values b (blocks_of u.kind) m.first m.second l))
 
-pub not_yet : (u : Unfinished) (m : MessageBlock) (n : ℕ) → length u.values ≡ 34 → m.ends ≡ false → (u.blocks + 1 ≡ n → ⊥) → n ≡ blocks_of u.kind
-    → going (followed (content_of u) m) ≡ extended (content_of u) m
-not_yet u m n l e t f =
-    sym (ap₂ (judged (followed (content_of u) m)) e (ne_eqb (u.blocks + 1) (blocks_of u.kind) (λ g. t (g ∙ sym f)))) ∙ extended_is u m l
+pub at_end : (u : Content) (m : MessageBlock) (b : ℕ) → length u.values ≡ 2 * b → m.ends ≡ true → b + 1 ≡ blocks_of u.kind
+    → tested (followed u m) ≡ extended u m
+at_end u m b l e t = judged_is u m b true true l e (eq-eqb (b + 1) (blocks_of u.kind) t)
 
-pub too_early : (u : Unfinished) (m : MessageBlock) (n : ℕ) → length u.values ≡ 34 → m.ends ≡ true → (u.blocks + 1 ≡ n → ⊥) → n ≡ blocks_of u.kind
-    → broken ≡ extended (content_of u) m
-too_early u m n l e t f =
-    sym (ap₂ (judged (followed (content_of u) m)) e (ne_eqb (u.blocks + 1) (blocks_of u.kind) (λ g. t (g ∙ sym f)))) ∙ extended_is u m l
+pub not_yet : (u : Content) (m : MessageBlock) (b : ℕ) → length u.values ≡ 2 * b → m.ends ≡ false → (b + 1 ≡ blocks_of u.kind → ⊥)
+    → going (followed u m) ≡ extended u m
+not_yet u m b l e t = judged_is u m b false false l e (ne_eqb (b + 1) (blocks_of u.kind) t)
 
-pub missing : (u : Unfinished) (m : MessageBlock) (n : ℕ) → length u.values ≡ 34 → m.ends ≡ false → u.blocks + 1 ≡ n → n ≡ blocks_of u.kind
-    → broken ≡ extended (content_of u) m
-missing u m n l e t f =
-    sym (ap₂ (judged (followed (content_of u) m)) e (eq-eqb (u.blocks + 1) (blocks_of u.kind) (t ∙ f))) ∙ extended_is u m l
+pub too_early : (u : Content) (m : MessageBlock) (b : ℕ) → length u.values ≡ 2 * b → m.ends ≡ true → (b + 1 ≡ blocks_of u.kind → ⊥)
+    → broken ≡ extended u m
+too_early u m b l e t = judged_is u m b true false l e (ne_eqb (b + 1) (blocks_of u.kind) t)
 
--- the values in memory after the block
-pub stored : (u : Unfinished) (m : MessageBlock) (k : ℕ) → length u.values ≡ 34 → k ≡ u.blocks + 1
-    → take (2 * k) (set (set u.values (2 * u.blocks) m.first) (2 * u.blocks + 1) m.second) ≡ (followed (content_of u) m).values
-stored u m k l e =
-    ap (λ (n : ℕ). take (2 * n) (set (set u.values (2 * u.blocks) m.first) (2 * u.blocks + 1) m.second)) e
-    ∙ two_set u.values u.blocks m.first m.second (omega (arith, u.short, few_blocks u.kind))
+pub missing : (u : Content) (m : MessageBlock) (b : ℕ) → length u.values ≡ 2 * b → m.ends ≡ false → b + 1 ≡ blocks_of u.kind
+    → broken ≡ extended u m
+missing u m b l e t = judged_is u m b false true l e (eq-eqb (b + 1) (blocks_of u.kind) t)
+
+-- nothing is left of a message all of whose blocks have come
+pub left_tested : (u : Content) → left (tested u) ≡ None
+left_tested u = go (eqb (crc12 (bits u.values)) 0)
+  where
+    go : (t : Bool) → left (cond t (whole u) wrong) ≡ None
+    go true = refl
+    go false = refl
 
 -- what the remainder is of
-pub field_all : (vs : List ℕ) (n : ℕ) → field vs 0 (16 * n) ≡ bits (take (2 * n) vs)
+field_all : (vs : List ℕ) (n : ℕ) → field vs 0 (16 * n) ≡ bits (take (2 * n) vs)
 field_all vs n = ap (λ (m : ℕ). take m (bits vs)) (let e : 16 * n - 0 ≡ 8 * (2 * n) = omega arith in e) ∙ take_bits (2 * n) vs
 
-pub remainder_is : (m : Message) (r n d t : ℕ) → r ≡ remainder d t (field m.values 0 (16 * n)) → d ≡ 12 → t ≡ 0x180F → n ≡ blocks_of m.kind
-    → r ≡ crc12 (bits (whole_of m).values)
-remainder_is m r n d t e f g h =
-    e ∙ ap₂ (λ (w G : ℕ). remainder w G (field m.values 0 (16 * n))) f g ∙ ap crc12 (field_all m.values n)
-    ∙ ap (λ (k : ℕ). crc12 (bits (take (2 * k) m.values))) h
+pub remainder_is : (vs : List ℕ) (r n d t : ℕ) → r ≡ remainder d t (field vs 0 (16 * n)) → d ≡ 12 → t ≡ 0x180F
+    → r ≡ crc12 (bits (take (2 * n) vs))
+remainder_is vs r n d t e f g = e ∙ ap₂ (λ (w G : ℕ). remainder w G (field vs 0 (16 * n))) f g ∙ ap crc12 (field_all vs n)
 
-pub is_whole : (m : Message) (r : ℕ) → r ≡ crc12 (bits (whole_of m).values) → r ≡ 0 → whole (whole_of m) ≡ tested (whole_of m)
-is_whole m r e z = sym (ap (λ (t : Bool). cond t (whole (whole_of m)) wrong) (eq-eqb (crc12 (bits (whole_of m).values)) 0 (sym e ∙ z)))
+pub is_whole : (u : Content) (r : ℕ) → r ≡ crc12 (bits u.values) → r ≡ 0 → whole u ≡ tested u
+is_whole u r e z = sym (ap (λ (t : Bool). cond t (whole u) wrong) (eq-eqb (crc12 (bits u.values)) 0 (sym e ∙ z)))
 
-pub is_wrong : (m : Message) (r : ℕ) → r ≡ crc12 (bits (whole_of m).values) → (r ≡ 0 → ⊥) → wrong ≡ tested (whole_of m)
-is_wrong m r e z = sym (ap (λ (t : Bool). cond t (whole (whole_of m)) wrong) (ne_eqb (crc12 (bits (whole_of m).values)) 0 (λ f. z (e ∙ f))))
+pub is_wrong : (u : Content) (r : ℕ) → r ≡ crc12 (bits u.values) → (r ≡ 0 → ⊥) → wrong ≡ tested u
+is_wrong u r e z = sym (ap (λ (t : Bool). cond t (whole u) wrong) (ne_eqb (crc12 (bits u.values)) 0 (λ f. z (e ∙ f))))

@@ -4,21 +4,14 @@ use Rattle.std.proofs.lemmas.List.{length-set}
 use Rattle.message.specs.declared.Kind.{Kind}
 use Rattle.message.specs.declared.Kind.TheVariants.{Basic, Aps, Cv, OneDm, TwoDmm, TwoDmr, Cs}
 use Rattle.message.specs.declared.MessageBlock.{MessageBlock}
-use Rattle.assembly.specs.Content.{Content, Outcome, broken, going, wrong, whole}
+use Rattle.assembly.specs.Content.{Content}
 use Rattle.collector.specs.State.{State, place_of}
-use Rattle.assembly.specs.Next.{next_of, same_kind}
+use Rattle.assembly.specs.Next.{Outcome, broken, going, wrong, whole, next_of, same_kind, left}
 use Rattle.collector.specs.Step.{after, after_kind, after_part, after_basic, collection_of, is_aps, kept, one_mark, basic_content, same, settled, unasked}
 use Rattle.collector.specs.Laws.{Call, gave, asked, goes_kind, goes_to, own, run, Sized}
 
 abbrev pub coll : Bool → State → Option Content
 coll aps s = cond aps s.aps s.low
-
--- what stays in a collection
-abbrev pub left : Outcome → Option Content
-left broken = None
-left (going u) = Some u
-left wrong = None
-left (whole u) = None
 
 -- what a block does to a collection
 abbrev pub advance_kind : Bool → Option Kind → Option Content → MessageBlock → Option Content

@@ -1,5 +1,5 @@
 -- Nothing else is found whole: what a collection holds has come in a row.
-use Rattle.std.proofs.Common.{◌≡◌, ℕ, ◌+◌, ◌*◌, ◌≤◌, Bool, true, false, cond, not, ◌&&◌, eqb, List, [], ◌∷◌, ◌++◌, length, Some, None, Option, sym, refl, ap, ◌∙◌, subst, ap₂, append_assoc, arith}
+use Rattle.std.proofs.Common.{Ok, ◌≡◌, ℕ, ◌+◌, ◌*◌, ◌≤◌, Bool, true, false, cond, not, ◌&&◌, eqb, List, [], ◌∷◌, ◌++◌, length, Some, None, Option, sym, refl, ap, ◌∙◌, subst, ap₂, append_assoc, arith}
 use Rattle.std.proofs.lemmas.List.{append-nil, length-append}
 use Rattle.std.proofs.lemmas.Bool.{eqb-true, ne_eqb}
 use Rattle.crc.specs.Bits.{bits}
@@ -11,14 +11,13 @@ use Rattle.message.specs.Blocks.{said}
 use Rattle.message.specs.Values.{crc12}
 use Rattle.message.specs.Written.{parts}
 use Rattle.collector.specs.declared.Report.{Report}
-use Rattle.collector.specs.declared.Found.TheVariants.{Nothing, Whole}
-use Rattle.assembly.specs.Content.{Content, Outcome, broken, going, wrong, whole}
+use Rattle.assembly.specs.Content.{Content}
 use Rattle.collector.specs.State.{State}
-use Rattle.assembly.specs.Next.{continued, extended, followed, judged, next_of, same_kind}
+use Rattle.assembly.specs.Next.{Outcome, broken, going, wrong, whole, continued, extended, followed, judged, next_of, same_kind, left}
 use Rattle.collector.specs.Step.{after, found_of, is_aps, new_state, one_mark, report_basic, report_kind, report_of, report_part, same, unasked}
 use Rattle.collector.specs.Laws.{Call, gave, asked, goes_kind, goes_to, own, run, Arrives, Completes, FoundWhole, Laws}
 use Rattle.assembly.proofs.Extends.{last_test}
-use Rattle.collector.proofs.Collections.{coll, left, advance, advance_kind, advance_other, coll_kind, own_push, own_asked, sized_run}
+use Rattle.collector.proofs.Collections.{coll, advance, advance_kind, advance_other, coll_kind, own_push, own_asked, sized_run}
 use Rattle.collector.proofs.Wholes.{part_at, content, parts_push, change_found, whole_found, written_found}
 
 -- kinds with one code are one kind
@@ -175,7 +174,7 @@ completes before b k u e f M =
     (row, M.1)
 
 found_part : (before : List Call) (b : MessageBlock) (k l : Kind) (o : Outcome) → b.kind ≡ Some l → same_kind l Basic ≡ false
-    → Makes (own (is_aps l) before ++ b ∷ []) b.kind o → found_of o ≡ Whole k → (us : List ℕ) × Completes before b k us
+    → Makes (own (is_aps l) before ++ b ∷ []) b.kind o → found_of o ≡ Ok (Some k) → (us : List ℕ) × Completes before b k us
 found_part before b k l broken e f M w = absurd (let z : ◌≡◌ {A = ℕ} 0 1 = cc in omega arith)
 found_part before b k l (going u) e f M w = absurd (let z : ◌≡◌ {A = ℕ} 0 1 = cc in omega arith)
 found_part before b k l wrong e f M w = absurd (let z : ◌≡◌ {A = ℕ} 0 1 = cc in omega arith)
@@ -185,26 +184,26 @@ found_part before b k l (whole u) e f M w =
     (u.values, subst (λ (x : Kind). Completes before b x u.values) kind (completes before b l u e f M))
 
 no_basic : (b : MessageBlock) (k : Kind) (t : Bool) → (k ≡ Basic → ⊥)
-    → (cond {A = Report} t (record { broken = false; found = Whole Basic }) (record { broken = true; found = Nothing })).found ≡ Whole k → ⊥
+    → (cond {A = Report} t (record { broken = false; found = Ok (Some Basic) }) (record { broken = true; found = Ok None })).found ≡ Ok (Some k) → ⊥
 no_basic b k true h w = h (let z : k ≡ Basic = cc in z)
 no_basic b k false h w = let z : ◌≡◌ {A = ℕ} 0 1 = cc in omega arith
 
 found_kind : (before : List Call) (b : MessageBlock) (k : Kind) (o : Option Kind) → b.kind ≡ o
-    → (report_kind o (run new_state before) b).found ≡ Whole k → (k ≡ Basic → ⊥) → (us : List ℕ) × Completes before b k us
+    → (report_kind o (run new_state before) b).found ≡ Ok (Some k) → (k ≡ Basic → ⊥) → (us : List ℕ) × Completes before b k us
 found_kind before b k None e w h = absurd (let z : ◌≡◌ {A = ℕ} 0 1 = cc in omega arith)
 found_kind before b k (Some l) e w h = go (same_kind l Basic) refl w
   where
     S : State
     S = run new_state before
 
-    go : (t : Bool) → same_kind l Basic ≡ t → (cond t (report_basic b) (report_part l S b)).found ≡ Whole k → (us : List ℕ) × Completes before b k us
+    go : (t : Bool) → same_kind l Basic ≡ t → (cond t (report_basic b) (report_part l S b)).found ≡ Ok (Some k) → (us : List ℕ) × Completes before b k us
     go true r v = absurd (no_basic b k (one_mark b) h v)
     go false r v =
         found_part before b k l (next_of l (coll (is_aps l) S) b) e r
         (next_makes (own (is_aps l) before) l (coll (is_aps l) S) b (came (is_aps l) before) e) v
 
 pub only_whole : (before : List Call) (b : MessageBlock) (k : Kind)
-    → (report_of (run new_state before) b).found ≡ Whole k → (k ≡ Basic → ⊥)
+    → (report_of (run new_state before) b).found ≡ Ok (Some k) → (k ≡ Basic → ⊥)
     → (us : List ℕ) × Completes before b k us × FoundWhole new_state before b k us
 only_whole before b k w h =
     let c = found_kind before b k b.kind refl w h in

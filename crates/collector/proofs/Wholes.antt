@@ -1,5 +1,5 @@
 -- A message whose blocks come in a row for its collection is found whole.
-use Rattle.std.proofs.Common.{◌≡◌, ℕ, zero, suc, ◌+◌, ◌-◌, ◌*◌, ◌<◌, ◌≤◌, Bool, true, false, cond, not, eqb, List, [], ◌∷◌, ◌++◌, length, get_or, take, Some, None, Option, sym, refl, ap, ◌∙◌, append_assoc, arith}
+use Rattle.std.proofs.Common.{Ok, Err, ◌≡◌, ℕ, zero, suc, ◌+◌, ◌-◌, ◌*◌, ◌<◌, ◌≤◌, Bool, true, false, cond, not, eqb, List, [], ◌∷◌, ◌++◌, length, get_or, take, Some, None, Option, sym, refl, ap, ◌∙◌, append_assoc, arith}
 use Rattle.std.proofs.lemmas.List.{nil_from_length, length-take-le, take_all, same_from_push, get_or-set_same}
 use Rattle.std.proofs.lemmas.Bool.{and_parts, not-true, eqb-true, eqb-false, eq-eqb, ne_eqb}
 use Rattle.crc.specs.Bits.{bits}
@@ -17,15 +17,16 @@ use Rattle.message.specs.Written.{message_blocks, parts, reads}
 use Rattle.message.proofs.Laws.{laws}
 use Rattle.message.proofs.Pairs.{paired_push, take_two}
 use Rattle.message.proofs.Writes.{lawful_length, some_blocks}
-use Rattle.collector.specs.declared.Found.TheVariants.{Whole, WrongRemainder}
-use Rattle.assembly.specs.Content.{Content, Outcome, broken, wrong, whole}
+use Rattle.collector.specs.declared.Fault.TheVariants.{Remainder}
+use Rattle.assembly.specs.Content.{Content}
 use Rattle.collector.specs.State.{State, place_of}
-use Rattle.assembly.specs.Next.{continued, extended, judged, next_of, same_kind, tested}
+use Rattle.assembly.specs.Next.{Outcome, broken, wrong, whole, continued, extended, judged, next_of, same_kind, tested, left}
 use Rattle.collector.specs.Step.{after, after_kind, after_part, after_basic, found_of, is_aps, last_of, report_basic, report_kind, report_of, report_part, settled}
 use Rattle.collector.specs.Laws.{Call, gave, goes_kind, goes_to, own, run, Sized, Arrives, Completes, FoundWhole}
-use Rattle.assembly.proofs.Extends.{few_blocks, last_test}
-use Rattle.collector.proofs.Keeps.{same_true}
-use Rattle.collector.proofs.Collections.{coll, left, advance, advances, coll_run, advances_append, run_append, own_push, sized_run}
+use Rattle.assembly.specs.Sizes.{few_blocks}
+use Rattle.assembly.proofs.Extends.{last_test}
+use Rattle.collector.proofs.SameKinds.{same_true}
+use Rattle.collector.proofs.Collections.{coll, advance, advances, coll_run, advances_append, run_append, own_push, sized_run}
 
 -- the block at place i of a message
 abbrev pub part_at : Kind → ℕ → ℕ → ℕ → MessageBlock
@@ -92,7 +93,7 @@ place_below Cs = omega arith
 -- a block that makes a message whole
 pub whole_part : (s : State) (b : MessageBlock) (k : Kind) (us : List ℕ) → Sized s → b.kind ≡ Some k → same_kind k Basic ≡ false
     → next_of k (coll (is_aps k) s) b ≡ whole (content k us)
-    → ((report_of s b).found ≡ Whole k) × (last_of k (after s b) ≡ Some (content k us)) × (k ≡ TwoDmm → (after s b).question ≡ Some (take 8 us))
+    → ((report_of s b).found ≡ Ok (Some k)) × (last_of k (after s b) ≡ Some (content k us)) × (k ≡ TwoDmm → (after s b).question ≡ Some (take 8 us))
 whole_part s b k us h e f o = (
   ap (λ (x : Option Kind). (report_kind x s b).found) e
       ∙ ap (λ (t : Bool). (cond t (report_basic b) (report_part k s b)).found) f
@@ -163,7 +164,7 @@ whole_found s before b k us sized h =
 pub change_found : (s : State) (before : List Call) (b : MessageBlock) (k : Kind) (us ws : List ℕ)
     → Arrives before b k ws → length us ≡ length ws → crc12 (bits us) ≡ 0
     → 0 < weight (xors (bits us) (bits ws)) → weight (xors (bits us) (bits ws)) ≤ 3
-    → (report_of (run s before) b).found ≡ WrongRemainder
+    → (report_of (run s before) b).found ≡ Err Remainder
 change_found s before b k us ws h l e lo hi =
     let S : State = run s before in
     let T : Tested S b k ws = arrived s before b k ws h in

@@ -1,5 +1,5 @@
 -- What is reported whole: exactly the messages whose blocks came in a row for their collection.
-use Rattle.std.specs.Prelude.{◌≡◌, ℕ, ◌*◌, ◌<◌, ◌≤◌, Bool, true, false, cond, not, ◌&&◌, List, [], ◌∷◌, ◌++◌, length, take, Some, None, Option, ◌≢◌}
+use Rattle.std.specs.Prelude.{◌≡◌, ℕ, ◌*◌, ◌<◌, ◌≤◌, Bool, true, false, if◌then◌else◌, not, ◌&&◌, List, [], ◌∷◌, ◌++◌, length, take, Some, None, Ok, Err, Option, ◌≢◌}
 use Rattle.crc.specs.Bits.{bits}
 use Rattle.crc.specs.Laws.{weight, xors}
 use Rattle.message.specs.declared.Kind.{Kind}
@@ -8,7 +8,7 @@ use Rattle.message.specs.declared.MessageBlock.{MessageBlock}
 use Rattle.message.specs.Kinds.{blocks_of}
 use Rattle.message.specs.Values.{crc12, filled, lawful}
 use Rattle.message.specs.Written.{message_blocks, parts, reads}
-use Rattle.collector.specs.declared.Found.TheVariants.{Whole, WrongRemainder}
+use Rattle.collector.specs.declared.Fault.TheVariants.{Remainder}
 use Rattle.assembly.specs.Next.{same_kind}
 use Rattle.collector.specs.State.{State}
 use Rattle.collector.specs.Step.{after, is_aps, last_of, new_state, report_of, same, unasked}
@@ -30,7 +30,7 @@ pub data Call : Type 0 where
 -- the blocks that go to one collection, in their order
 abbrev pub own : Bool → List Call → List MessageBlock
 own aps [] = []
-own aps (gave b ∷ cs) = cond (goes_to aps b) (b ∷ own aps cs) (own aps cs)
+own aps (gave b ∷ cs) = if goes_to aps b then b ∷ own aps cs else own aps cs
 own aps (asked ∷ cs) = own aps cs
 
 -- what a collector holds after some calls
@@ -57,7 +57,7 @@ Completes before b k us = Arrives before b k us × (crc12 (bits us) ≡ 0)
 -- b, taken after some calls, is reported to make a message of kind k whole, which is then the last of its kind;
 -- one of two-way delay then waits as the question
 pub record FoundWhole (s : State) (before : List Call) (b : MessageBlock) (k : Kind) (us : List ℕ) : Type 0 where
-  pub found : (report_of (run s before) b).found ≡ Whole k
+  pub found : (report_of (run s before) b).found ≡ Ok (Some k)
   pub last : last_of k (run s (before ++ gave b ∷ [])) ≡ Some (record { kind = k; values = us })
   pub waits : k ≡ TwoDmm → (run s (before ++ gave b ∷ [])).question ≡ Some (take 8 us)
 
@@ -77,8 +77,8 @@ pub record Laws : Type 0 where
   pub change_found : (s : State) (before : List Call) (b : MessageBlock) (k : Kind) (us ws : List ℕ)
       → Arrives before b k ws → length us ≡ length ws → crc12 (bits us) ≡ 0
       → 0 < weight (xors (bits us) (bits ws)) → weight (xors (bits us) (bits ws)) ≤ 3
-      → (report_of (run s before) b).found ≡ WrongRemainder
+      → (report_of (run s before) b).found ≡ Err Remainder
   -- A new collector reports no other message whole but a basic one.
   pub only_whole : (before : List Call) (b : MessageBlock) (k : Kind)
-      → (report_of (run new_state before) b).found ≡ Whole k → (k ≢ Basic)
+      → (report_of (run new_state before) b).found ≡ Ok (Some k) → (k ≢ Basic)
       → (us : List ℕ) × Completes before b k us × FoundWhole new_state before b k us

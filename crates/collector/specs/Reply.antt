@@ -1,7 +1,12 @@
 -- The response to a question of two-way delay.
-use Rattle.std.specs.Prelude.{◌≡◌, ℕ, true, List, [], ◌∷◌, ◌++◌, length}
+use Rattle.std.specs.Prelude.{◌≡◌, ℕ, Bool, true, List, [], ◌∷◌, ◌++◌, length}
 use Rattle.message.specs.declared.Kind.TheVariants.{TwoDmr}
 use Rattle.message.specs.Values.{lawful}
+
+-- a question that has been handed out: when it was sent, and whether it has been answered or declined
+pub record Asked : Type 0 where
+  pub time : List ℕ
+  pub settled : Bool
 
 -- when the question was sent, when it was received, when the response is sent; then zeros, where the remainder goes
 abbrev pub reply_values : List ℕ → List ℕ → List ℕ → List ℕ

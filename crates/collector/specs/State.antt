@@ -1,10 +1,8 @@
 -- What a collector holds, as lists of value bytes.
-use Rattle.std.specs.Prelude.{ℕ, List, map, Option}
-use Rattle.std.specs.Option.{option_map}
+use Rattle.std.specs.Prelude.{ℕ, List, Option}
 use Rattle.message.specs.declared.Kind.{Kind}
 use Rattle.message.specs.declared.Kind.TheVariants.{Basic, Aps, Cv, OneDm, TwoDmm, TwoDmr, Cs}
-use Rattle.assembly.specs.Content.{Content, content_of, whole_of}
-use Rattle.collector.specs.declared.Collector.{Collector}
+use Rattle.assembly.specs.Content.{Content}
 
 -- the two collections, the last whole message of each kind, and the time of the question that waits
 pub record State : Type 0 where
@@ -22,11 +20,3 @@ place_of OneDm = 3
 place_of TwoDmm = 4
 place_of TwoDmr = 5
 place_of Cs = 6
-
-abbrev pub state_of : Collector → State
-state_of c = record {
-  aps = option_map content_of c.aps;
-  low = option_map content_of c.low;
-  kept = map (option_map whole_of) c.kept;
-  question = c.question;
-}

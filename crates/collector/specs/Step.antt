@@ -1,13 +1,13 @@
 -- What a collector does at a message block, and what it reports.
-use Rattle.std.specs.Prelude.{Bool, true, false, cond, not, ◌&&◌, ◌||◌, [], ◌∷◌, take, replicate, is_some, Some, None, Option, slice_index_or, slice_set}
+use Rattle.std.specs.Prelude.{Bool, true, false, if◌then◌else◌, not, ◌&&◌, ◌||◌, [], ◌∷◌, take, replicate, is_some, Some, None, Ok, Err, Option, Result, slice_index_or, slice_set}
 use Rattle.message.specs.declared.Kind.{Kind}
 use Rattle.message.specs.declared.Kind.TheVariants.{Basic, Aps, TwoDmm}
 use Rattle.message.specs.declared.MessageBlock.{MessageBlock}
 use Rattle.collector.specs.declared.Report.{Report}
-use Rattle.collector.specs.declared.Found.{Found}
-use Rattle.collector.specs.declared.Found.TheVariants.{Nothing, Whole, WrongRemainder, UnknownKind}
-use Rattle.assembly.specs.Content.{Content, Outcome, broken, going, wrong, whole}
-use Rattle.assembly.specs.Next.{next_of, same_kind}
+use Rattle.collector.specs.declared.Fault.{Fault}
+use Rattle.collector.specs.declared.Fault.TheVariants.{Remainder, UnknownKind}
+use Rattle.assembly.specs.Content.{Content}
+use Rattle.assembly.specs.Next.{Outcome, broken, going, wrong, whole, next_of, same_kind}
 use Rattle.collector.specs.State.{State, place_of}
 
 abbrev pub same : Bool → Bool → Bool
@@ -23,10 +23,15 @@ abbrev pub is_aps : Kind → Bool
 is_aps k = same_kind k Aps
 
 abbrev pub collection_of : Kind → State → Option Content
-collection_of k s = cond (is_aps k) s.aps s.low
+collection_of k s = if is_aps k then s.aps else s.low
 
 abbrev pub held : Kind → Option Content → State → State
-held k c s = record { aps = cond (is_aps k) c s.aps; low = cond (is_aps k) s.low c; kept = s.kept; question = s.question }
+held k c s = record {
+  aps = if is_aps k then c else s.aps;
+  low = if is_aps k then s.low else c;
+  kept = s.kept;
+  question = s.question;
+}
 
 -- the last whole message of its kind; one of two-way delay waits as a question, in place of an earlier one
 abbrev pub kept : Content → State → State
@@ -34,7 +39,7 @@ kept u s = record {
   aps = s.aps;
   low = s.low;
   kept = slice_set s.kept (place_of u.kind) (Some u);
-  question = cond (same_kind u.kind TwoDmm) (Some (take 8 u.values)) s.question;
+  question = if same_kind u.kind TwoDmm then Some (take 8 u.values) else s.question;
 }
 
 abbrev pub settled : Kind → Outcome → State → State
@@ -43,11 +48,12 @@ settled k (going u) s = held k (Some u) s
 settled k wrong s = held k None s
 settled k (whole u) s = kept u (held k None s)
 
-abbrev pub found_of : Outcome → Found
-found_of broken = Nothing
-found_of (going u) = Nothing
-found_of wrong = WrongRemainder
-found_of (whole u) = Whole u.kind
+-- the kind of the message that is whole, if one is, or the fault
+abbrev pub found_of : Outcome → Result (Option Kind) Fault
+found_of broken = Ok None
+found_of (going u) = Ok None
+found_of wrong = Err Remainder
+found_of (whole u) = Ok (Some u.kind)
 
 abbrev pub is_broken : Outcome → Bool
 is_broken broken = true
@@ -72,22 +78,22 @@ abbrev pub basic_content : MessageBlock → Content
 basic_content b = record { kind = Basic; values = b.first ∷ b.second ∷ [] }
 
 abbrev pub after_basic : State → MessageBlock → State
-after_basic s b = cond (one_mark b) (kept (basic_content b) s) s
+after_basic s b = if one_mark b then kept (basic_content b) s else s
 
 abbrev pub report_basic : MessageBlock → Report
-report_basic b = cond (one_mark b) (record { broken = false; found = Whole Basic }) (record { broken = true; found = Nothing })
+report_basic b = if one_mark b then record { broken = false; found = Ok (Some Basic) } else record { broken = true; found = Ok None }
 
 -- an unknown kind disturbs nothing
 abbrev pub after_kind : Option Kind → State → MessageBlock → State
 after_kind None s b = s
-after_kind (Some k) s b = cond (same_kind k Basic) (after_basic s b) (after_part k s b)
+after_kind (Some k) s b = if same_kind k Basic then after_basic s b else after_part k s b
 
 abbrev pub after : State → MessageBlock → State
 after s b = after_kind b.kind s b
 
 abbrev pub report_kind : Option Kind → State → MessageBlock → Report
-report_kind None s b = record { broken = false; found = UnknownKind }
-report_kind (Some k) s b = cond (same_kind k Basic) (report_basic b) (report_part k s b)
+report_kind None s b = record { broken = false; found = Err UnknownKind }
+report_kind (Some k) s b = if same_kind k Basic then report_basic b else report_part k s b
 
 abbrev pub report_of : State → MessageBlock → Report
 report_of s b = report_kind b.kind s b

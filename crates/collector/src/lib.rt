@@ -1,50 +1,43 @@
-// Collects path messages from their blocks as they come, protection messages apart from the low priority ones.
-// A block is reported as what it completes or breaks: a whole message, a wrong remainder (P1), an unknown kind (P2), a broken sequence (P3).
-// Main promise: `take` does and reports exactly what the definitions `after` and `report_of` say, whose laws are in `Laws`.
+//! Collects path messages from their blocks as they come, protection messages apart from the low priority ones.
+//! A block is reported as what it completes or breaks: a whole message, a wrong remainder (P1), an unknown kind (P2), a broken sequence (P3).
+//! Main promise: `take` does and reports exactly what the definitions `after` and `report_of` say, whose laws are in `Laws`.
 #![tactic(auto)]
 
-ghost use Rattle.std.specs.Prelude.{◌≡◌};
+ghost use Rattle.std.specs.Prelude.{◌≡◌, IfSome, IsFalse, Some};
 ghost use Rattle.std.specs.Option.{option_map};
-ghost use Rattle.assembly.specs.Content.{content_of, whole_of};
-ghost use Rattle.collector.specs.Faults.{fault_number, faults_of};
+ghost use Rattle.collector.specs.Faults.{fault_number, fault_text, faults_of};
 ghost use Rattle.collector.specs.Laws.{Laws};
-ghost use Rattle.collector.specs.State.{place_of, state_of};
-ghost use Rattle.collector.specs.Step.{after, after_basic, after_part, collection_of, held, kept as keptAfter, last_of, new_state, report_basic, report_of, report_part, unasked};
+ghost use Rattle.collector.specs.State.{place_of};
+ghost use Rattle.collector.specs.Step.{after, after_basic, after_part, collection_of, held, kept, last_of, new_state, report_basic, report_of, report_part, unasked};
 
 mod question;
 
-use assembly::{Message, Next, Unfinished, outcome};
+use assembly::{AssemblyError, Message, Unfinished};
 use message::{Kind, MessageBlock};
 pub use question::{Answers, Question};
+use std::fmt;
+use std::marker::Model;
 
-// What a block did besides breaking a sequence.
-#[derive(Clone, Copy, Debug, PartialEq)]
-pub enum Found {
-    Nothing,
-    Whole(Kind),
-    // P1
-    WrongRemainder,
-    // P2
-    UnknownKind,
-}
-
-// What is reported of a block: whether it broke a sequence (P3, at most once, and before any P1), and what it completed.
-#[derive(Clone, Copy, Debug, PartialEq)]
-pub struct Report {
-    pub broken: bool,
-    pub found: Found,
-}
-
-// The faults of message blocks: P1, P2 and P3.
-#[derive(Clone, Copy)]
+/// The faults of message blocks: P1, P2 and P3.
+#[derive(Clone, Copy, Debug, PartialEq, Eq)]
 pub enum Fault {
     Remainder,
     UnknownKind,
     Sequence,
 }
 
-// The two collections, the last whole message of each kind, and the time of the question that waits.
-// It cannot be copied, so that no question is handed out twice.
+/// What is reported of a block. A start mark can break the sequence of the message that it gives up while its own block is sound or has a
+/// fault besides, so that both are told.
+#[derive(Clone, Copy, Debug, PartialEq, Eq)]
+pub struct Report {
+    /// Whether the block broke a sequence: P3, at most once, and before any P1.
+    pub broken: bool,
+    /// The kind of the message that it makes whole, if one, or P1 or P2.
+    pub found: Result<Option<Kind>, Fault>,
+}
+
+/// The two collections, the last whole message of each kind, and the time of the question that waits.
+/// It cannot be copied, so that no question is handed out twice.
 #[derive(Drop)]
 pub struct Collector {
     aps: Option<Unfinished>,
@@ -53,7 +46,15 @@ pub struct Collector {
     question: Option<[u8; 8]>,
 }
 
-// The place of a kind among the messages kept.
+impl Model for Collector {
+    ghost use Rattle.collector.specs.State.{State};
+
+    ghost Value = { State };
+
+    ghost view = { λ c. record { aps = c.aps; low = c.low; kept = c.kept; question = c.question } };
+}
+
+// The place of a kind among the messages kept; an array by kind, since there is no heap here for a map.
 fn place(kind: Kind) -> usize
     ensures { result ≡ place_of kind }
 {
@@ -69,26 +70,24 @@ fn place(kind: Kind) -> usize
 }
 
 impl Report {
-    // The faults of a block in the order in which they are listed.
+    fn new(broken: bool, found: Result<Option<Kind>, Fault>) -> Report
+        ensures { result ≡ record { broken = broken; found = found } }
+    {
+        Report { broken, found }
+    }
+
+    /// The faults of a block in the order in which they are listed.
     pub fn faults(self) -> [Option<Fault>; 2]
         ensures { result ≡ faults_of self }
     {
-        let first = if self.broken {
-            Some(Fault::Sequence)
-        } else {
-            None
-        };
-        let second = match self.found {
-            Found::WrongRemainder => Some(Fault::Remainder),
-            Found::UnknownKind => Some(Fault::UnknownKind),
-            _ => None,
-        };
+        let first = self.broken.then_some(Fault::Sequence);
+        let second = self.found.err();
         [first, second]
     }
 }
 
 impl Fault {
-    // The number by which an operator knows the fault.
+    /// The number by which an operator knows the fault.
     pub fn number(self) -> u8
         ensures { result ≡ fault_number self }
     {
@@ -100,9 +99,18 @@ impl Fault {
     }
 }
 
+/// `P1`, `P2` or `P3`.
+impl fmt::Display for Fault {
+    ghost output = { λ fault. Some (fault_text fault) };
+
+    fn fmt<W: fmt::Write>(&self, f: &mut fmt::Formatter<W>) -> fmt::Result {
+        write!(f, "P{}", self.number())
+    }
+}
+
 impl Collector {
     pub fn new() -> Collector
-        ensures state { state_of result ≡ new_state }
+        ensures state { result ≡ new_state }
         ensures laws { Laws }
     {
         Collector {
@@ -113,101 +121,73 @@ impl Collector {
         }
     }
 
-    // Takes one message block.
+    /// Takes one message block.
     pub fn take(&mut self, block: MessageBlock) -> Report
-        ensures state { state_of self.new ≡ after (state_of self.old) block }
-        ensures report { result ≡ report_of (state_of self.old) block }
+        ensures state { self.new ≡ after self.old block }
+        ensures report { result ≡ report_of self.old block }
     {
         match block.kind {
-            None => Report {
-                broken: false,
-                found: Found::UnknownKind,
-            },
+            None => Report::new(false, Err(Fault::UnknownKind)),
             Some(Kind::Basic) => self.take_basic(block),
             Some(kind) => self.take_part(kind, block),
         }
     }
 
-    // The last whole message of a kind.
+    /// The last whole message of a kind.
     pub fn last(&self, kind: Kind) -> Option<Message>
-        ensures { option_map whole_of result ≡ last_of kind (state_of self.now) }
+        ensures { result ≡ last_of kind self.now }
     {
         let index = place(kind);
         self.kept[index]
     }
 
-    // Hands out the question that waits, if one does.
+    /// Hands out the question that waits, if one does. It is still to be answered or declined.
     pub fn collect(&mut self) -> Option<Question>
-        ensures question { option_map (λ q. q.time) result ≡ (state_of self.old).question }
-        ensures state { state_of self.new ≡ unasked (state_of self.old) }
+        ensures question { option_map (λ q. q.time) result ≡ self.old.question }
+        ensures open { IfSome result (λ q. IsFalse q.settled) }
+        ensures state { self.new ≡ unasked self.old }
     {
-        match self.question.take() {
-            Some(time) => Some(Question { time }),
-            None => None,
-        }
+        let time = self.question.take()?;
+        Some(Question::ask(time))
     }
 
     // A basic message is one block with exactly one mark.
     fn take_basic(&mut self, block: MessageBlock) -> Report
-        ensures state { state_of self.new ≡ after_basic (state_of self.old) block }
+        ensures state { self.new ≡ after_basic self.old block }
         ensures report { result ≡ report_basic block }
     {
         if block.starts == block.ends {
-            return Report {
-                broken: true,
-                found: Found::Nothing,
-            };
+            return Report::new(true, Ok(None));
         }
         self.keep(Message::basic(block.first, block.second));
-        Report {
-            broken: false,
-            found: Found::Whole(Kind::Basic),
-        }
+        Report::new(false, Ok(Some(Kind::Basic)))
     }
 
     // A block of a kind that is collected.
     fn take_part(&mut self, kind: Kind, block: MessageBlock) -> Report
-        ensures state { state_of self.new ≡ after_part kind (state_of self.old) block }
-        ensures report { result ≡ report_part kind (state_of self.old) block }
+        ensures state { self.new ≡ after_part kind self.old block }
+        ensures report { result ≡ report_part kind self.old block }
     {
-        let collection = self.collection(kind);
+        let mut collection = self.collection(kind);
         let broken = block.starts && collection.is_some();
-        match outcome(collection, kind, block) {
-            Next::Broken => {
-                self.hold(kind, None);
-                Report {
-                    broken: true,
-                    found: Found::Nothing,
-                }
-            }
-            Next::Going(unfinished) => {
-                self.hold(kind, Some(unfinished));
-                Report {
-                    broken,
-                    found: Found::Nothing,
-                }
-            }
-            Next::WrongRemainder => {
-                self.hold(kind, None);
-                Report {
-                    broken,
-                    found: Found::WrongRemainder,
-                }
-            }
-            Next::Whole(message) => {
-                self.hold(kind, None);
+        let found = assembly::take(&mut collection, kind, block);
+        self.hold(kind, collection);
+        match found {
+            Ok(whole) => {
+                let Some(message) = whole else {
+                    return Report::new(broken, Ok(None));
+                };
                 self.keep(message);
-                Report {
-                    broken,
-                    found: Found::Whole(message.kind()),
-                }
+                Report::new(broken, Ok(Some(message.kind())))
             }
+            Err(AssemblyError::OutOfSequence) => Report::new(true, Ok(None)),
+            Err(AssemblyError::WrongRemainder) => Report::new(broken, Err(Fault::Remainder)),
         }
     }
 
     // What is being collected with messages of a kind.
     fn collection(&self, kind: Kind) -> Option<Unfinished>
-        ensures { option_map content_of result ≡ collection_of kind (state_of self.now) }
+        ensures { result ≡ collection_of kind self.now }
     {
         match kind {
             Kind::Aps => self.aps,
@@ -216,7 +196,7 @@ impl Collector {
     }
 
     fn hold(&mut self, kind: Kind, unfinished: Option<Unfinished>)
-        ensures { state_of self.new ≡ held kind (option_map content_of unfinished) (state_of self.old) }
+        ensures { self.new ≡ held kind unfinished self.old }
     {
         if kind == Kind::Aps {
             self.aps = unfinished;
@@ -227,7 +207,7 @@ impl Collector {
 
     // Keeps a whole message as the last of its kind; one of two-way delay waits as a question too.
     fn keep(&mut self, message: Message)
-        ensures { state_of self.new ≡ keptAfter (whole_of message) (state_of self.old) }
+        ensures { self.new ≡ kept message self.old }
     {
         let kind = message.kind();
         self.kept[place(kind)] = Some(message);

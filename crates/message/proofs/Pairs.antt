@@ -1,6 +1,6 @@
 -- Value bytes two by two.
 use Rattle.std.proofs.Common.{◌≡◌, ℕ, zero, suc, ◌+◌, ◌*◌, ◌<◌, List, [], ◌∷◌, ◌++◌, length, get_or, take, drop, set, sym, refl, ap, ◌∙◌, append_assoc, arith}
-use Rattle.std.proofs.lemmas.List.{take_more, drop_more, set_at}
+use Rattle.std.proofs.lemmas.List.{take_more, drop_more, set_at, get_or-drop, drop-drop}
 use Rattle.message.specs.Values.{paired}
 
 -- two more bytes make one more entry
@@ -38,3 +38,15 @@ put_pair {X} f i us a b out x h l e =
     ∙ ap (λ (y : X). paired f 0 us ++ y ∷ drop (i + 1) out) (e ∙ ap (λ (m : ℕ). f m a b) (let z : i ≡ 0 + i = omega arith in z))
     ∙ sym (append_assoc (paired f 0 us) (f (0 + i) a b ∷ []) (drop (i + 1) out))
     ∙ ap (λ (front : List X). front ++ drop (i + 1) out) (sym (paired_push f i 0 us a b h))
+
+-- two bytes from the front of what is left of a list, and what is left behind them
+pub front_pair : (vs p t : List ℕ) (n : ℕ) → drop n vs ≡ p ++ t → length p ≡ 2
+    → (get_or p 0 0 ≡ get_or vs n 0) × (get_or p 1 0 ≡ get_or vs (n + 1) 0) × (t ≡ drop (n + 2) vs)
+front_pair vs [] t n e l = absurd (omega arith)
+front_pair vs (x ∷ []) t n e l = absurd (omega arith)
+front_pair vs (x ∷ y ∷ z ∷ p) t n e l = absurd (omega arith)
+front_pair vs (x ∷ y ∷ []) t n e l = (
+  sym (ap (λ (l : List ℕ). get_or l 0 0) e) ∙ get_or-drop n vs 0 0 ∙ ap (λ (m : ℕ). get_or vs m 0) (let z : n + 0 ≡ n = omega arith in z),
+  sym (ap (λ (l : List ℕ). get_or l 1 0) e) ∙ get_or-drop n vs 1 0,
+  sym (ap (drop 2) e) ∙ drop-drop 2 n vs,
+)

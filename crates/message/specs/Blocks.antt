@@ -1,6 +1,6 @@
 -- A message block: control, 4B, a head byte, two value bytes, 0C and three zeros.
 -- The head byte holds the start mark in bit 0, the end mark in bit 1 and the kind's code in bits 2 to 7.
-use Rattle.std.specs.Prelude.{ℕ, ◌+◌, ◌*◌, ◌/◌, ◌%◌, Bool, cond, ◌&&◌, List, [], ◌∷◌, Some, None, Option, ◌==◌, slice_index, slice_index_or}
+use Rattle.std.specs.Prelude.{ℕ, ◌+◌, ◌*◌, ◌/◌, ◌%◌, Bool, if◌then◌else◌, ◌&&◌, List, [], ◌∷◌, Some, None, Option, ◌==◌, slice_index, slice_index_or}
 use Rattle.block.specs.declared.Block.{Block}
 use Rattle.block.specs.declared.Sync.TheVariants.{Zeros, Control, Data, Ones}
 use Rattle.message.specs.declared.Kind.{Kind}
@@ -9,7 +9,7 @@ use Rattle.message.specs.Kinds.{code_of, kind_of}
 
 -- a bit as a number
 abbrev pub bit : Bool → ℕ
-bit b = cond b 1 0
+bit b = if b then 1 else 0
 
 abbrev pub head_of : Kind → Bool → Bool → ℕ
 head_of k starts ends = 4 * code_of k + (2 * bit ends + bit starts)
@@ -22,15 +22,15 @@ message_block k starts ends first second =
 abbrev pub bytes_say : List ℕ → Option MessageBlock
 bytes_say bytes =
     let head : ℕ = slice_index_or bytes 1 0 in
-    cond (slice_index bytes 0 == 0x4B && slice_index bytes 4 % 16 == 0x0C)
-    (Some (record {
+    if slice_index bytes 0 == 0x4B && slice_index bytes 4 % 16 == 0x0C
+    then Some (record {
       kind = kind_of (head / 4);
       starts = (head % 2 == 1);
       ends = (head / 2 % 2 == 1);
       first = slice_index bytes 2;
       second = slice_index bytes 3;
-    }))
-    None
+    })
+    else None
 
 -- what a block says, if it is a message block
 abbrev pub read_of : Block → Option MessageBlock

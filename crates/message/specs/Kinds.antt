@@ -1,30 +1,47 @@
--- The kinds of messages: code and number of blocks, and the kind that a code names.
-use Rattle.std.specs.Prelude.{ℕ, cond, List, [], ◌∷◌, Some, None, Option, ◌==◌}
+-- The kinds of messages: code, number of blocks and name, and the kind that a code names.
+use Rattle.std.specs.Prelude.{ℕ, if◌then◌else◌, List, [], ◌∷◌, Some, None, Option, Result, ◌==◌, codes}
+use Rattle.std.specs.Option.{ok_or}
 use Rattle.message.specs.declared.Kind.{Kind}
 use Rattle.message.specs.declared.Kind.TheVariants.{Basic, Aps, Cv, OneDm, TwoDmm, TwoDmr, Cs}
-use Rattle.message.specs.declared.Format.{Format}
-
--- code and number of blocks
-abbrev pub format_of : Kind → Format
-format_of Basic = record { code = 0x0F; blocks = 1 }
-format_of Aps = record { code = 0x11; blocks = 2 }
-format_of Cv = record { code = 0x33; blocks = 17 }
-format_of OneDm = record { code = 0x35; blocks = 5 }
-format_of TwoDmm = record { code = 0x39; blocks = 5 }
-format_of TwoDmr = record { code = 0x30; blocks = 13 }
-format_of Cs = record { code = 0x36; blocks = 1 }
+use Rattle.message.specs.declared.UnknownKind.{UnknownKind}
 
 abbrev pub code_of : Kind → ℕ
-code_of k = (format_of k).code
+code_of Basic = 0x0F
+code_of Aps = 0x11
+code_of Cv = 0x33
+code_of OneDm = 0x35
+code_of TwoDmm = 0x39
+code_of TwoDmr = 0x30
+code_of Cs = 0x36
 
 abbrev pub blocks_of : Kind → ℕ
-blocks_of k = (format_of k).blocks
+blocks_of Basic = 1
+blocks_of Aps = 2
+blocks_of Cv = 17
+blocks_of OneDm = 5
+blocks_of TwoDmm = 5
+blocks_of TwoDmr = 13
+blocks_of Cs = 1
+
+-- as the standard writes it
+abbrev pub name_of : Kind → List ℕ
+name_of Basic = codes "basic"
+name_of Aps = codes "APS"
+name_of Cv = codes "CV"
+name_of OneDm = codes "1DM"
+name_of TwoDmm = codes "2DMM"
+name_of TwoDmr = codes "2DMR"
+name_of Cs = codes "CS"
 
 -- the first of some kinds that has this code
 abbrev pub among : List Kind → ℕ → Option Kind
 among [] c = None
-among (k ∷ ks) c = cond (c == code_of k) (Some k) (among ks c)
+among (k ∷ ks) c = if c == code_of k then Some k else among ks c
 
 -- the kind that a code names, none if it is unknown
 abbrev pub kind_of : ℕ → Option Kind
 kind_of c = among (Basic ∷ Aps ∷ Cv ∷ OneDm ∷ TwoDmm ∷ TwoDmr ∷ Cs ∷ []) c
+
+-- the same as a conversion
+abbrev pub decoded : ℕ → Result Kind UnknownKind
+decoded c = ok_or (kind_of c) (record { code = c })

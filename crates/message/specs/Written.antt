@@ -1,5 +1,5 @@
 -- What the writer makes: the blocks of a message, the start mark on the first and the end mark on the last.
-use Rattle.std.specs.Prelude.{◌≡◌, ℕ, ◌+◌, ◌≤◌, Bool, true, false, cond, List, [], ◌∷◌, ◌++◌, length, drop, Some, None, Ok, Err, Option, Result, ◌==◌, nat_le}
+use Rattle.std.specs.Prelude.{◌≡◌, ℕ, ◌+◌, ◌≤◌, Bool, true, false, if◌then◌else◌, List, [], ◌∷◌, ◌++◌, length, drop, Some, None, Ok, Err, Option, Result, ◌==◌, nat_le}
 use Rattle.crc.specs.Bits.{bits}
 use Rattle.refusal.specs.declared.Refusal.{Refusal}
 use Rattle.refusal.specs.declared.Refusal.TheVariants.{MessageInvalid, OutputTooShort}
@@ -29,12 +29,12 @@ parts k us = paired (λ i a b. said k (i == 0) (i + 1 == blocks_of k) a b) 0 us
 -- the number of blocks, or why none is written
 abbrev pub answer : Kind → List ℕ → List Block → Result ℕ Refusal
 answer k vs out =
-    cond (lawful k vs) (cond (nat_le (blocks_of k) (length out)) (Ok (blocks_of k)) (Err OutputTooShort)) (Err MessageInvalid)
+    if lawful k vs then if nat_le (blocks_of k) (length out) then Ok (blocks_of k) else Err OutputTooShort else Err MessageInvalid
 
 -- the output after: the blocks at its front, or as before
 abbrev pub written : Kind → List ℕ → List Block → List Block
 written k vs out =
-    cond (lawful k vs) (cond (nat_le (blocks_of k) (length out)) (message_blocks k (filled vs) ++ drop (blocks_of k) out) out) out
+    if lawful k vs then if nat_le (blocks_of k) (length out) then message_blocks k (filled vs) ++ drop (blocks_of k) out else out else out
 
 -- the same for a code, which may name no kind
 abbrev pub answer_for : Option Kind → List ℕ → List Block → Result ℕ Refusal

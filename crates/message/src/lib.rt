@@ -1,87 +1,139 @@
-// Path maintenance messages: their kinds, the blocks that carry them, and the writer that makes the blocks of a message.
-// A message is two value bytes a block; its first and last blocks are marked, and all but the basic one end in a 12-bit remainder.
-// Main promise: `write` makes exactly the blocks `message_blocks` of the values with their remainder, and `read` reads each back.
+//! Path maintenance messages: their kinds, the blocks that carry them, and the writer that makes the blocks of a message.
+//! A message is two value bytes a block; its first and last blocks are marked, and all but the basic one end in a 12-bit remainder.
+//! Main promise: `write` makes exactly the blocks `message_blocks` of the values with their remainder, and `read` reads each back.
 #![tactic(auto)]
 
-ghost use Rattle.std.specs.Prelude.{◌≡◌, ◌-◌, ◌<◌, ◌≤◌, true, ◌++◌, length, take, drop, slice_index};
+ghost use Rattle.std.specs.Prelude.{◌≡◌, ◌-◌, ◌<◌, ◌≤◌, true, Some, ◌++◌, length, take, drop, slice_index};
 ghost use Rattle.message.specs.Blocks.{message_block, read_of};
-ghost use Rattle.message.specs.Kinds.{blocks_of, format_of, kind_of};
-ghost use Rattle.message.specs.Values.{filled, lawful as lawfulValues};
+ghost use Rattle.message.specs.Kinds.{blocks_of, code_of, decoded, kind_of, name_of};
+ghost use Rattle.message.specs.Values.{filled, lawful};
 ghost use Rattle.message.specs.Written.{answer, answer_for, basic_block, message_blocks, written, written_for, Laws};
 
 use block::{Block, Sync};
 use crc::Generator;
 use refusal::Refusal;
+use std::fmt;
 
-// The kinds of messages, by the names that the standard gives them.
+/// The kinds of messages, by the names that ITU-T G.8312 gives them.
 #[derive(Clone, Copy, Debug, PartialEq, Eq)]
 pub enum Kind {
     Basic,
-    // automatic protection switching
+    /// Automatic protection switching.
     Aps,
-    // connectivity verification
+    /// Connectivity verification.
     Cv,
-    // one-way delay
+    /// One-way delay.
     OneDm,
-    // two-way delay
+    /// Two-way delay.
     TwoDmm,
-    // two-way delay response
+    /// Two-way delay response.
     TwoDmr,
-    // client signal
+    /// Client signal.
     Cs,
 }
 
-// What is fixed for a kind: its code in the head byte, and how many blocks its messages have.
-#[derive(Clone, Copy)]
-pub struct Format {
+/// A code that no kind has.
+#[derive(Clone, Copy, Debug, PartialEq, Eq)]
+pub struct UnknownKind {
     pub code: u8,
-    pub blocks: usize,
 }
 
 impl Kind {
-    pub fn format(self) -> Format
-        ensures { result ≡ format_of self }
+    /// The code of the kind in the head byte of its blocks, six bits.
+    pub fn code(self) -> u8
+        ensures { result ≡ code_of self }
     {
-        let (code, blocks) = match self {
-            Kind::Basic => (0x0F, 1),
-            Kind::Aps => (0x11, 2),
-            Kind::Cv => (0x33, 17),
-            Kind::OneDm => (0x35, 5),
-            Kind::TwoDmm => (0x39, 5),
-            Kind::TwoDmr => (0x30, 13),
-            Kind::Cs => (0x36, 1),
-        };
-        Format { code, blocks }
+        match self {
+            Kind::Basic => 0x0F,
+            Kind::Aps => 0x11,
+            Kind::Cv => 0x33,
+            Kind::OneDm => 0x35,
+            Kind::TwoDmm => 0x39,
+            Kind::TwoDmr => 0x30,
+            Kind::Cs => 0x36,
+        }
     }
 
-    // The kind with this code, or none.
-    pub fn from_code(code: u8) -> Option<Kind>
-        ensures { result ≡ kind_of code }
+    /// How many blocks a message of the kind has.
+    pub fn blocks(self) -> usize
+        ensures { result ≡ blocks_of self }
     {
-        match code {
-            0x0F => Some(Kind::Basic),
-            0x11 => Some(Kind::Aps),
-            0x33 => Some(Kind::Cv),
-            0x35 => Some(Kind::OneDm),
-            0x39 => Some(Kind::TwoDmm),
-            0x30 => Some(Kind::TwoDmr),
-            0x36 => Some(Kind::Cs),
-            _ => None,
+        match self {
+            Kind::Basic => 1,
+            Kind::Aps => 2,
+            Kind::Cv => 17,
+            Kind::OneDm => 5,
+            Kind::TwoDmm => 5,
+            Kind::TwoDmr => 13,
+            Kind::Cs => 1,
         }
     }
 }
 
-// What a message block says; the kind is none if its code is unknown.
+impl TryFrom<u8> for Kind {
+    type Error = UnknownKind;
+
+    ghost try_from_gives = { λ code r. r ≡ decoded code };
+
+    fn try_from(code: u8) -> Result<Kind, UnknownKind> {
+        match code {
+            0x0F => Ok(Kind::Basic),
+            0x11 => Ok(Kind::Aps),
+            0x33 => Ok(Kind::Cv),
+            0x35 => Ok(Kind::OneDm),
+            0x39 => Ok(Kind::TwoDmm),
+            0x30 => Ok(Kind::TwoDmr),
+            0x36 => Ok(Kind::Cs),
+            _ => Err(UnknownKind { code }),
+        }
+    }
+}
+
+impl fmt::Display for Kind {
+    ghost output = { λ kind. Some (name_of kind) };
+
+    fn fmt<W: fmt::Write>(&self, f: &mut fmt::Formatter<W>) -> fmt::Result {
+        write!(
+            f,
+            "{}",
+            match self {
+                Kind::Basic => "basic",
+                Kind::Aps => "APS",
+                Kind::Cv => "CV",
+                Kind::OneDm => "1DM",
+                Kind::TwoDmm => "2DMM",
+                Kind::TwoDmr => "2DMR",
+                Kind::Cs => "CS",
+            }
+        )
+    }
+}
+
+/// A message of an unknown kind is refused as one with wrong value bytes is.
+impl From<UnknownKind> for Refusal {
+    ghost use Rattle.refusal.specs.declared.Refusal.TheVariants.{MessageInvalid};
+
+    ghost from_gives = { λ _ r. r ≡ MessageInvalid };
+
+    fn from(_: UnknownKind) -> Refusal {
+        Refusal::MessageInvalid
+    }
+}
+
+/// What a message block says; the kind is none if its code is unknown.
 #[derive(Clone, Copy)]
 pub struct MessageBlock {
     pub kind: Option<Kind>,
+    /// Whether it has the start mark, and the end mark.
     pub starts: bool,
     pub ends: bool,
+    /// Its two value bytes.
     pub first: u8,
     pub second: u8,
 }
 
-// What a block says, if it is a message block: control, type 4B, and C in the low half of byte 4.
+/// What a block says, if it is a message block: control, type 4B, and C in the low half of byte 4.
+/// The last three bytes and the high half of byte 4 are not looked at.
 pub fn read(block: &Block) -> Option<MessageBlock>
     ensures { result ≡ read_of block.now }
 {
@@ -90,7 +142,7 @@ pub fn read(block: &Block) -> Option<MessageBlock>
     };
     match block.bytes {
         [0x4B, head, first, second, order, ..] if order % 16 == 0x0C => Some(MessageBlock {
-            kind: Kind::from_code(head / 4),
+            kind: Kind::try_from(head / 4).ok(),
             starts: head % 2 == 1,
             ends: head / 2 % 2 == 1,
             first,
@@ -100,31 +152,26 @@ pub fn read(block: &Block) -> Option<MessageBlock>
     }
 }
 
-// One block of a message.
+// One block of a message. It takes five values, since a `MessageBlock` may be of an unknown kind and this one is not.
 fn message_block(kind: Kind, starts: bool, ends: bool, first: u8, second: u8) -> Block
     ensures { result ≡ message_block kind starts ends first second }
 {
-    let marks = match (starts, ends) {
-        (false, false) => 0,
-        (true, false) => 1,
-        (false, true) => 2,
-        (true, true) => 3,
-    };
-    let head = 4 * kind.format().code + marks;
+    let marks = 2 * u8::from(ends) + u8::from(starts);
+    let head = 4 * kind.code() + marks;
     Block {
         sync: Sync::Control,
         bytes: [0x4B, head, first, second, 0x0C, 0, 0, 0],
     }
 }
 
-// Where a basic message stands: it has the start mark before a protection opportunity and the end mark before a low priority one.
+/// Where a basic message stands: it has the start mark before a protection opportunity and the end mark before a low priority one.
 #[derive(Clone, Copy)]
 pub enum Mark {
     Start,
     End,
 }
 
-// The block of a basic message.
+/// The block of a basic message.
 pub fn basic(mark: Mark) -> Block
     ensures { result ≡ basic_block mark }
 {
@@ -134,7 +181,8 @@ pub fn basic(mark: Mark) -> Block
     }
 }
 
-// Writes the blocks of a message to the front of the output, and answers how many.
+/// Writes the blocks of a message to the front of the output, and answers how many.
+/// Refused are values that are not lawful (10), and then an output with too few places (12); the output is then as before.
 pub fn write(kind: Kind, values: &[u8], output: &mut [Block]) -> Result<usize, Refusal>
     ensures answer { result ≡ answer kind values.now output.old }
     ensures output { output.new ≡ written kind values.now output.old }
@@ -143,7 +191,7 @@ pub fn write(kind: Kind, values: &[u8], output: &mut [Block]) -> Result<usize, R
     if !lawful(kind, values) {
         return Err(Refusal::MessageInvalid);
     }
-    let blocks = kind.format().blocks;
+    let blocks = kind.blocks();
     if output.len() < blocks {
         return Err(Refusal::OutputTooShort);
     }
@@ -151,38 +199,35 @@ pub fn write(kind: Kind, values: &[u8], output: &mut [Block]) -> Result<usize, R
     Ok(blocks)
 }
 
-// The same for a code, which may be unknown.
+/// The same for a code; one that no kind has is refused with 10.
 pub fn write_code(code: u8, values: &[u8], output: &mut [Block]) -> Result<usize, Refusal>
     ensures answer { result ≡ answer_for (kind_of code) values.now output.old }
     ensures output { output.new ≡ written_for (kind_of code) values.now output.old }
 {
-    match Kind::from_code(code) {
-        Some(kind) => write(kind, values, output),
-        None => Err(Refusal::MessageInvalid),
-    }
+    write(Kind::try_from(code)?, values, output)
 }
 
-// Whether these are value bytes of a message of this kind, with zeros in the places that the writer fills.
+/// Whether these are value bytes of a message of this kind, with zeros in the places that the writer fills.
 pub fn lawful(kind: Kind, values: &[u8]) -> bool
-    ensures { result ≡ lawfulValues kind values.now }
+    ensures { result ≡ lawful kind values.now }
 {
     let free_below = match kind {
         Kind::Basic => return false,
         Kind::Cs => 4,
         _ => 1,
     };
-    let count = 2 * kind.format().blocks;
+    let count = 2 * kind.blocks();
     values.len() == count && values[count - 2] < free_below && values[count - 1] == 0
 }
 
 fn write_blocks(kind: Kind, values: &[u8], output: &mut [Block])
-    requires lawful { lawfulValues kind values.now ≡ true }
+    requires lawful { lawful kind values.now ≡ true }
     requires room { blocks_of kind ≤ length output.old }
     ensures { output.new ≡ message_blocks kind (filled values.now) ++ drop (blocks_of kind) output.old }
 {
-    let last = kind.format().blocks - 1;
-    for i in 0..last {
-        output[i] = message_block(kind, i == 0, false, values[2 * i], values[2 * i + 1]);
+    let last = kind.blocks() - 1;
+    for (i, pair) in values.chunks_exact(2).take(last).enumerate() {
+        output[i] = message_block(kind, i == 0, false, pair[0], pair[1]);
     }
     let [first, second] = last_values(values);
     output[last] = message_block(kind, last == 0, true, first, second);

@@ -1,12 +1,12 @@
-// Examples of path messages, written and collected, as tables.
-// Expected blocks and values are the standard's test vectors for 1DM, the value for CS, and others worked by hand.
-// Main promise: none of its own; each table is run against the crates `message` and `collector`.
+//! Examples of path messages, written and collected, as tables.
+//! Expected blocks and values are the standard's test vectors for 1DM, the value for CS, and others worked by hand.
+//! Main promise: none of its own; each table is run against the crates `message` and `collector`.
 #![tactic(auto)]
 
 #[cfg(test)]
 mod tests {
     use block::{Block, Sync};
-    use collector::{Collector, Found, Report};
+    use collector::{Collector, Fault, Report};
     use message::{Kind, Mark, basic, read, write, write_code};
     use refusal::Refusal;
     use std::process::Abort;
@@ -36,13 +36,13 @@ mod tests {
             Some(said) => collector.take(said),
             None => Report {
                 broken: false,
-                found: Found::Nothing,
+                found: Ok(None),
             },
         }
     }
 
     // A block after the other, with what is reported of each.
-    fn run(rt: &impl Abort, collector: &mut Collector, table: &[(Block, bool, Found)]) {
+    fn run(rt: &impl Abort, collector: &mut Collector, table: &[(Block, bool, Result<Option<Kind>, Fault>)]) {
         for (block, broken, found) in table {
             assert_eq!(rt;
                 feed(collector, *block),
@@ -161,8 +161,8 @@ mod tests {
     #[test]
     fn sequences(rt: HostRuntime) {
         let [a, b, c, d, e] = vector();
-        let none = Found::Nothing;
-        let whole = Found::Whole(Kind::OneDm);
+        let none = Ok(None);
+        let whole = Ok(Some(Kind::OneDm));
         let mut collector = Collector::new();
         // a start in the middle
         run(
@@ -213,7 +213,7 @@ mod tests {
             ],
         );
         // a wrong remainder
-        let wrong = Found::WrongRemainder;
+        let wrong = Err(Fault::Remainder);
         run(
             &rt,
             &mut collector,
@@ -232,7 +232,7 @@ mod tests {
             &mut collector,
             &[
                 (a, false, none),
-                (part(0xDB, 3, 0x1E), true, Found::Whole(Kind::Cs)),
+                (part(0xDB, 3, 0x1E), true, Ok(Some(Kind::Cs))),
                 (a, false, none),
                 (part(0xDB, 3, 0x1F), true, wrong),
             ],
@@ -242,7 +242,7 @@ mod tests {
     #[test]
     fn interleaved(rt: HostRuntime) -> Result<(), Fail> {
         let [a, b, c, d, e] = vector();
-        let none = Found::Nothing;
+        let none = Ok(None);
         let mut collector = Collector::new();
         // a protection message of zeros, which leave 0, and basic messages with one mark, with both and with none
         run(
@@ -251,9 +251,9 @@ mod tests {
             &[
                 (a, false, none),
                 (part(0x45, 0, 0), false, none),
-                (basic(Mark::Start), false, Found::Whole(Kind::Basic)),
+                (basic(Mark::Start), false, Ok(Some(Kind::Basic))),
                 (b, false, none),
-                (part(0x46, 0, 0), false, Found::Whole(Kind::Aps)),
+                (part(0x46, 0, 0), false, Ok(Some(Kind::Aps))),
                 (part(0x3F, 0, 0), true, none),
                 (part(0x3C, 0, 0), true, none),
                 (c, false, none),
@@ -267,13 +267,13 @@ mod tests {
             run(
                 &rt,
                 &mut collector,
-                &[(part(4 * code + 3, 1, 2), false, Found::UnknownKind)],
+                &[(part(4 * code + 3, 1, 2), false, Err(Fault::UnknownKind))],
             );
         }
         run(
             &rt,
             &mut collector,
-            &[(d, false, none), (e, false, Found::Whole(Kind::OneDm))],
+            &[(d, false, none), (e, false, Ok(Some(Kind::OneDm)))],
         );
         assert!(rt; collector.last(Kind::Cv).is_none());
         match collector.last(Kind::OneDm) {

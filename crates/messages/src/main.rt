@@ -1,16 +1,17 @@
-// Writes a path message of each kind, gives its blocks to a collector, whole, damaged and woven into one another, and answers a question.
-// It prints each block with what is reported of it: the faults P1 to P3 in their order, and the kind of a message that it makes whole.
-// Main promise: none of its own; the work is that of the crates `message` and `collector`.
+//! Writes a path message of each kind, gives its blocks to a collector, whole, damaged and woven into one another, and answers a question.
+//! It prints each block with what is reported of it: the faults P1 to P3 in their order, and the kind of a message that it makes whole.
+//! Main promise: none of its own; the work is that of the crates `message` and `collector`.
 #![tactic(auto)]
 
 ghost use Rattle.std.specs.Prelude.{◌≡◌, true, is_some, Some, None, MatchResult};
 ghost use Rattle.refusal.specs.declared.Refusal.TheVariants.{NoFreePlace};
 
 use block::Block;
-use collector::{Answers, Collector, Found};
+use collector::{Answers, Collector};
 use message::{Kind, Mark, basic, read, write};
 use refusal::Refusal;
 use std::io;
+use value_text::HexBytes;
 
 const CV: [u8; 34] = *b"Dohimpas path 1 trail identifier\0\0";
 
@@ -18,7 +19,7 @@ const FIRST_TIME: [u8; 10] = [0x37, 0x9A, 0x05, 0x51, 0x91, 0x52, 0x35, 0x98, 0,
 
 const SECOND_TIME: [u8; 10] = [0x35, 0x98, 0x14, 0x75, 0x91, 0x50, 0x35, 0x98, 0, 0];
 
-// One response, as a sender holds it until it is sent.
+/// One response, as a sender holds it until it is sent.
 #[derive(Drop)]
 struct Desk {
     waiting: Option<[u8; 26]>,
@@ -33,18 +34,6 @@ impl Answers for Desk {
         }
         self.waiting = Some(*values);
         Ok(())
-    }
-}
-
-fn name(kind: Kind) -> &'static str {
-    match kind {
-        Kind::Basic => "basic",
-        Kind::Aps => "APS",
-        Kind::Cv => "CV",
-        Kind::OneDm => "1DM",
-        Kind::TwoDmm => "2DMM",
-        Kind::TwoDmr => "2DMR",
-        Kind::Cs => "CS",
     }
 }
 
@@ -68,25 +57,19 @@ fn give(
             break;
         };
         let report = collector.take(said);
-        show(rt, block)?;
-        for fault in report.faults() {
-            if let Some(fault) = fault {
-                let number = fault.number();
-                print!(rt; " P{number}")?;
-            }
+        let bytes = HexBytes {
+            bytes: &block.bytes,
+        };
+        print!(rt; "{bytes}")?;
+        for fault in report.faults().into_iter().flatten() {
+            print!(rt; " {fault}")?;
         }
-        if let Found::Whole(kind) = report.found {
-            let kind = name(kind);
+        if let Ok(Some(kind)) = report.found {
             print!(rt; " whole {kind}")?;
         }
         println!(rt; "")?;
     }
     Ok(())
-}
-
-fn show(rt: &impl Print, block: &Block) -> io::Result<()> {
-    let [a, b, c, d, e, f, g, h] = block.bytes;
-    print!(rt; "{a:02X} {b:02X} {c:02X} {d:02X} {e:02X} {f:02X} {g:02X} {h:02X}")
 }
 
 // A message of each kind.

@@ -1,2 +1,2 @@
-pub mod HexDigits
 pub mod Readings
+pub mod HexTexts

@@ -1,5 +1,5 @@
 -- How values are written as text.
-use Rattle.std.specs.Prelude.{◌≡◌, ℕ, zero, suc, ◌+◌, ◌-◌, ◌*◌, ◌/◌, ◌%◌, cond, List, [], ◌∷◌, ◌++◌, map, codes, decimal, nat_lt}
+use Rattle.std.specs.Prelude.{◌≡◌, ℕ, ◌+◌, ◌-◌, ◌*◌, ◌/◌, ◌%◌, if◌then◌else◌, List, [], ◌∷◌, ◌++◌, map, codes, decimal, nat_lt}
 use Rattle.std.specs.List.{flat_map}
 use Rattle.std.specs.Str.{bytes_eq}
 use Rattle.block.specs.declared.Block.{Block}
@@ -11,7 +11,7 @@ use Rattle.refusal.specs.Numbers.{number_of}
 
 -- a hexadecimal digit: 0 to 9, A to F, as characters
 abbrev pub hex_digit : ℕ → ℕ
-hex_digit d = cond (nat_lt d 10) (48 + d) (55 + d)
+hex_digit d = if nat_lt d 10 then 48 + d else 55 + d
 
 -- a byte, its high digit first
 abbrev pub hex_byte : ℕ → List ℕ
@@ -20,11 +20,6 @@ hex_byte b = hex_digit (b / 16) ∷ hex_digit (b % 16) ∷ []
 -- with a blank before it
 abbrev pub spaced_byte : ℕ → List ℕ
 spaced_byte b = 32 ∷ hex_byte b
-
--- the byte at a place: all but the first have a blank before them
-abbrev pub placed_byte : ℕ → ℕ → List ℕ
-placed_byte zero b = hex_byte b
-placed_byte (suc _) b = spaced_byte b
 
 -- bytes in hexadecimal, with single blanks between them
 abbrev pub hex_of : List ℕ → List ℕ
@@ -51,7 +46,7 @@ refused_text cause = codes "refused with " ++ decimal (number_of cause)
 
 -- ok only for equal texts
 abbrev pub verdict_of : List ℕ → List ℕ → List ℕ
-verdict_of expected computed = cond (bytes_eq expected computed) (codes "ok") (codes "differs")
+verdict_of expected computed = if bytes_eq expected computed then codes "ok" else codes "differs"
 
 -- a line: the value's name, what is expected, what was computed, and whether they are the same
 abbrev pub line_of : List ℕ → List ℕ → List ℕ → List ℕ
@@ -60,7 +55,7 @@ line_of name expected computed =
 
 -- the value of a hexadecimal digit
 abbrev pub digit_value : ℕ → ℕ
-digit_value c = cond (nat_lt c 65) (c - 48) (c - 55)
+digit_value c = if nat_lt c 65 then c - 48 else c - 55
 
 -- the bytes of a text with a blank and two digits for each
 abbrev pub spaced_read : List ℕ → List ℕ

@@ -1,12 +1,13 @@
 -- The text of each computed value, by the definition of the call that computes it.
-use Rattle.std.specs.Prelude.{ℕ, ◌-◌, cond, List, [], ◌∷◌, ◌++◌, replicate, Some, None, Ok, Err, codes, decimal, Option, Result, nat_le, nat_lt, slice_index, slice_index_or}
+use Rattle.std.specs.Prelude.{ℕ, ◌-◌, if◌then◌else◌, List, [], ◌∷◌, ◌++◌, replicate, Ok, Err, codes, decimal, Result, nat_le, nat_lt, slice_index, slice_index_or}
 use Rattle.block.specs.declared.Block.{Block}
 use Rattle.block.specs.Fixed.{idle_block}
 use Rattle.refusal.specs.declared.Refusal.{Refusal}
 use Rattle.refusal.specs.declared.Refusal.TheVariants.{OutOfRange}
 use Rattle.overhead.specs.declared.OverheadFault.{OverheadFault}
 use Rattle.overhead.specs.declared.OverheadFault.TheVariants.{WrongRemainder, ClientTooHigh, FrameTooHigh}
-use Rattle.overhead.specs.Format.{Fields, overhead_bytes}
+use Rattle.overhead.specs.declared.Overhead.{Overhead}
+use Rattle.overhead.specs.Format.{Fields, fields_of, overhead_bytes}
 use Rattle.overhead.specs.Laws.{overhead}
 use Rattle.frame.specs.declared.SlotStart.{SlotStart}
 use Rattle.frame.specs.SlotStarts.{slot_start}
@@ -17,13 +18,19 @@ use Rattle.message.specs.Written.{answer, written}
 use Rattle.value_text.specs.Texts.{block_text, hex_of, refused_text}
 
 -- what an overhead can say: entry 0, no client, or a client number, and a frame number
-abbrev pub checked_fields : ℕ → ℕ → Option Fields
-checked_fields entry frame = cond (nat_le entry 480) (cond (nat_le 480 frame) None (Some (overhead entry frame))) None
+abbrev pub checked_fields : ℕ → ℕ → Result Fields Refusal
+checked_fields entry frame =
+    if nat_le entry 480 then if nat_le 480 frame then Err OutOfRange else Ok (overhead entry frame) else Err OutOfRange
+
+-- what is said by the overhead that is made
+abbrev pub said : Result Overhead Refusal → Result Fields Refusal
+said (Ok made) = Ok (fields_of made)
+said (Err cause) = Err cause
 
 -- the bytes of an overhead
-abbrev pub written_overhead : Option Fields → List ℕ
-written_overhead (Some fields) = hex_of (overhead_bytes fields)
-written_overhead None = refused_text OutOfRange
+abbrev pub written_overhead : Result Fields Refusal → List ℕ
+written_overhead (Ok fields) = hex_of (overhead_bytes fields)
+written_overhead (Err cause) = refused_text cause
 
 -- what an overhead is read as
 abbrev pub read_overhead : Result Fields OverheadFault → List ℕ
@@ -67,7 +74,8 @@ written_packet p =
 
 -- a writer's answer and output, for the block at a place of a message, counted from 0
 abbrev pub place_text : Result ℕ Refusal → List Block → ℕ → List ℕ
-place_text (Ok count) blocks place = cond (nat_lt place count) (block_text (slice_index_or blocks place idle_block)) (codes "no block")
+place_text (Ok count) blocks place =
+    if nat_lt place count then block_text (slice_index_or blocks place idle_block) else codes "no block"
 place_text (Err cause) blocks place = refused_text cause
 
 -- the block at a place of what `message::write` makes, in an output of the most blocks that a message has

@@ -1,19 +1,19 @@
-// Worked values of the standard as the library computes them, written as text.
-// Each is computed by the call that a user of the library makes, with bad input refused as that call refuses it.
-// Main promise: each text is that of the value which the definition behind the call gives.
+//! Worked values of the standard as the library computes them, written as text.
+//! Each is computed by the call that a user of the library makes, with bad input refused as that call refuses it.
+//! Main promise: each text is that of the value which the definition behind the call gives.
 #![tactic(auto)]
 
 ghost use Rattle.std.specs.Prelude.{◌≡◌, ◌≤◌, length, IfOk, Ok, Err, string_bytes};
-ghost use Rattle.crc.specs.Bits.{field as bitField};
+ghost use Rattle.crc.specs.Bits.{field};
 ghost use Rattle.crc.specs.Remainder.{remainder};
 ghost use Rattle.numbers.specs.Range.{checked};
 ghost use Rattle.overhead.specs.Format.{fields_of, read_bytes};
-ghost use Rattle.std.specs.Option.{option_map};
 ghost use Rattle.value_text.specs.Texts.{seven_digits};
-ghost use Rattle.vector_values.specs.Values.{checked_fields, end_type, made_text, read_overhead, slot_text, written_message, written_overhead, written_packet};
+ghost use Rattle.vector_values.specs.Values.{checked_fields, end_type, made_text, read_overhead, said, slot_text, written_message, written_overhead, written_packet};
 
 use block::Block;
 use crc::Generator;
+use frame::SlotStart;
 use message::Kind;
 use numbers::{ClientNumber, FrameNumber, SlotNumber};
 use overhead::{Overhead, OverheadFault};
@@ -26,41 +26,33 @@ const PACKET_BLOCKS: usize = 253;
 
 const MESSAGE_BLOCKS: usize = 17;
 
-// The overhead that announces a client, or none at entry 0; none where a number is out of range.
-fn overhead_of(entry: u16, frame: u16) -> Option<Overhead>
-    ensures { option_map fields_of result ≡ checked_fields entry frame }
+// The overhead that announces a client, or none at entry 0.
+fn overhead_of(entry: u16, frame: u16) -> Result<Overhead, Refusal>
+    ensures { said result ≡ checked_fields entry frame }
 {
-    let announced = match entry {
-        0 => None,
-        _ => match ClientNumber::try_from(entry) {
-            Ok(client) => Some(client),
-            Err(_) => return None,
-        },
-    };
-    match FrameNumber::try_from(frame) {
-        Ok(frame) => Some(Overhead { announced, frame }),
-        Err(_) => None,
-    }
+    let announced = ClientNumber::from_entry(entry)?;
+    let frame = FrameNumber::try_from(frame)?;
+    Ok(Overhead { announced, frame })
 }
 
-// The bytes that `Overhead::write` makes; entry 0 announces no client.
-pub fn overhead_written(heap: Global, entry: u16, frame: u16) -> Result<String, AllocError>
+/// The bytes that `Overhead::write` makes; entry 0 announces no client.
+pub fn overhead_written(alloc: Global, entry: u16, frame: u16) -> Result<String, AllocError>
     ensures { IfOk result (λ t. string_bytes t ≡ written_overhead (checked_fields entry frame)) }
 {
     match overhead_of(entry, frame) {
-        Some(overhead) => hex(heap, &overhead.write()),
-        None => refused(heap, Refusal::OutOfRange),
+        Ok(overhead) => hex(alloc, &overhead.write()),
+        Err(cause) => refused(alloc, cause),
     }
 }
 
 // The numbers that an overhead says.
-fn numbers_text(heap: Global, overhead: Overhead) -> Result<String, AllocError>
+fn numbers_text(alloc: Global, overhead: Overhead) -> Result<String, AllocError>
     ensures { IfOk result (λ t. string_bytes t ≡ read_overhead (Ok (fields_of overhead))) }
 {
     let Overhead { announced, frame } = overhead;
     let client = ClientNumber::entry(announced);
     let frame = frame.number();
-    format!(in heap; "client number {client}, frame number {frame}")
+    format!(in alloc; "client number {client}, frame number {frame}")
 }
 
 // Why an overhead is not read.
@@ -74,29 +66,26 @@ fn fault_text(fault: OverheadFault) -> &'static str
     }
 }
 
-// What `Overhead::read` answers.
-pub fn overhead_read(heap: Global, bytes: &[u8; 7]) -> Result<String, AllocError>
+/// What `Overhead::read` answers.
+pub fn overhead_read(alloc: Global, bytes: &[u8; 7]) -> Result<String, AllocError>
     ensures { IfOk result (λ t. string_bytes t ≡ read_overhead (read_bytes bytes.now)) }
 {
     match Overhead::read(bytes) {
-        Ok(overhead) => numbers_text(heap, overhead),
-        Err(fault) => String::from_str(heap, fault_text(fault)),
+        Ok(overhead) => numbers_text(alloc, overhead),
+        Err(fault) => String::from_str(alloc, fault_text(fault)),
     }
 }
 
-// Where `frame::slot_start` says that a slot begins.
-pub fn slot_text(heap: Global, slot: u16) -> Result<String, AllocError>
+/// Where `frame::slot_start` says that a slot begins.
+pub fn slot_text(alloc: Global, slot: u16) -> Result<String, AllocError>
     ensures { IfOk result (λ t. string_bytes t ≡ slot_text (checked slot)) }
 {
     match SlotNumber::try_from(slot) {
         Ok(slot) => {
-            let start = frame::slot_start(slot);
-            let block = start.block;
-            let byte = start.byte;
-            let bit = start.bit;
-            format!(in heap; "data block {block}, byte {byte}, bit {bit}")
+            let SlotStart { block, byte, bit } = frame::slot_start(slot);
+            format!(in alloc; "data block {block}, byte {byte}, bit {bit}")
         }
-        Err(cause) => refused(heap, cause),
+        Err(cause) => refused(alloc, cause),
     }
 }
 
@@ -110,27 +99,27 @@ fn end_type(blocks: &[Block], count: usize) -> u8
 }
 
 // How many blocks were made, and the type of the end.
-fn packet_made(heap: Global, count: usize, end: u8) -> Result<String, AllocError>
+fn packet_made(alloc: Global, count: usize, end: u8) -> Result<String, AllocError>
     ensures { IfOk result (λ t. string_bytes t ≡ made_text count end) }
 {
-    let end = hex(heap, &[end])?;
-    format!(in heap; "{count} blocks, end {end}")
+    let end = hex(alloc, &[end])?;
+    format!(in alloc; "{count} blocks, end {end}")
 }
 
-// The blocks that `packet::write` makes: how many, and the type of the end.
-pub fn packet_text(heap: Global, packet: &[u8]) -> Result<String, AllocError>
+/// The blocks that `packet::write` makes: how many, and the type of the end.
+pub fn packet_text(alloc: Global, packet: &[u8]) -> Result<String, AllocError>
     ensures { IfOk result (λ t. string_bytes t ≡ written_packet packet.now) }
 {
     let mut blocks = [Block::idle(); PACKET_BLOCKS];
     match packet::write(packet, &mut blocks) {
-        Ok(count) => packet_made(heap, count, end_type(&blocks, count)),
-        Err(cause) => refused(heap, cause),
+        Ok(count) => packet_made(alloc, count, end_type(&blocks, count)),
+        Err(cause) => refused(alloc, cause),
     }
 }
 
-// The block at a place, counted from 0, among those that `message::write` makes.
+/// The block at a place, counted from 0, among those that `message::write` makes.
 pub fn message_text(
-    heap: Global,
+    alloc: Global,
     kind: Kind,
     values: &[u8],
     place: usize,
@@ -139,23 +128,21 @@ pub fn message_text(
 {
     let mut blocks = [Block::idle(); MESSAGE_BLOCKS];
     match message::write(kind, values, &mut blocks) {
-        Ok(count) if place < count => block_text(heap, &blocks[place]),
-        Ok(_) => String::from_str(heap, "no block"),
-        Err(cause) => refused(heap, cause),
+        Ok(count) if place < count => block_text(alloc, &blocks[place]),
+        Ok(_) => String::from_str(alloc, "no block"),
+        Err(cause) => refused(alloc, cause),
     }
 }
 
-// The 7-bit remainder of a field of bits, in binary.
+/// The 7-bit remainder of a field of bits, in binary.
 pub fn remainder_text(
-    heap: Global,
+    alloc: Global,
     bytes: &[u8],
     from: usize,
     to: usize,
 ) -> Result<String, AllocError>
-    ensures { IfOk result (λ t. string_bytes t ≡ seven_digits (remainder 7 0xB7 (bitField bytes.now from to))) }
+    ensures { IfOk result (λ t. string_bytes t ≡ seven_digits (remainder 7 0xB7 (field bytes.now from to))) }
 {
     let n = Generator::degree_seven().remainder(bytes, from, to);
-    let (d6, d5, d4) = (n / 64 % 2, n / 32 % 2, n / 16 % 2);
-    let (d3, d2, d1, d0) = (n / 8 % 2, n / 4 % 2, n / 2 % 2, n % 2);
-    format!(in heap; "{d6}{d5}{d4}{d3}{d2}{d1}{d0}")
+    format!(in alloc; "{n:07b}")
 }

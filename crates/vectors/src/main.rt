@@ -1,6 +1,6 @@
-// The program `vectors`: computes worked values of the standard with the library, and prints each beside the value expected.
-// A line has the value's name, what is expected, what was computed, and `ok` or `differs`.
-// Main promise: none of its own; `vector_values` computes, `value_text` compares and writes, and `main` prints.
+//! The program `vectors`: computes worked values of the standard with the library, and prints each beside the value expected.
+//! A line has the value's name, what is expected, what was computed, and `ok` or `differs`.
+//! Main promise: none of its own; `vector_values` computes, `value_text` compares and writes, and `main` prints.
 #![tactic(auto)]
 
 use message::Kind;
@@ -116,8 +116,7 @@ fn delay_message(
     values: &[u8; 10],
     blocks: &[(&str, &str); 5],
 ) -> io::Result<()> {
-    for i in 0..5usize {
-        let (name, expected) = blocks[i];
+    for (i, (name, expected)) in blocks.iter().enumerate() {
         let computed = vector_values::message_text(rt.alloc(), Kind::OneDm, values, i)?;
         show(rt, name, expected, computed)?;
     }
