@@ -1,6 +1,6 @@
 use Rattle.std.proofs.Common.{◌≡◌, ◌<◌, length, ap, arith, rules}
-use Rattle.packet_text.specs.Lines.{cut_line}
-use Rattle.packet_text.proofs.Cuts.{rest_shorter}
+use Rattle.form.specs.Cut.{cut_line}
+use Rattle.form.proofs.Cuts.{rest_shorter}
 use Rattle.packets.proofs.store_all.Goals as goal
 
 pub loop-rest-smaller : goal.loop-rest-smaller
