@@ -172,7 +172,8 @@ fn is_named(draft: &Calendar, client: u16) -> bool
 
 // What a line's claims come to: a number out of range first, then the client, then its slots.
 fn weigh(known: bool, claims: Claims) -> Result<(), Refusal>
-    ensures { (n : ℕ) (es : List ℕ) → MatchResult result (λ _. weighed n known (claim_of es claims) ≡ Ok es) (λ cause. weighed n known (claim_of es claims) ≡ Err (refused cause Level.Calendar n)) }
+    ensures lawful { OnOk result ((n : ℕ) (es : List ℕ) → weighed n known (claim_of es claims) ≡ Ok es) }
+    ensures cause { IfErr result (λ cause. (n : ℕ) (es : List ℕ) → weighed n known (claim_of es claims) ≡ Err (refused cause Level.Calendar n)) }
 {
     if !claims.lawful {
         Err(Refusal::OutOfRange)
@@ -187,7 +188,8 @@ fn weigh(known: bool, claims: Claims) -> Result<(), Refusal>
 
 // Reads a line without its newline as a lease, and gives the lease's slots to its client.
 fn lease(draft: &mut Calendar, line: &[u8]) -> Result<(), Fault>
-    ensures { (n : ℕ) → MatchResult result (λ _. leased n (entries_of draft.old) (form line.now) ≡ Ok (entries_of draft.new)) (λ fault. leased n (entries_of draft.old) (form line.now) ≡ Err (refused fault.cause fault.level n)) }
+    ensures read { OnOk result ((n : ℕ) → leased n (entries_of draft.old) (form line.now) ≡ Ok (entries_of draft.new)) }
+    ensures fault { IfErr result (λ fault. (n : ℕ) → leased n (entries_of draft.old) (form line.now) ≡ Err (refused fault.cause fault.level n)) }
 {
     let (client, text) = read_client(line)?;
     let known = is_named(draft, client);
@@ -199,7 +201,8 @@ fn lease(draft: &mut Calendar, line: &[u8]) -> Result<(), Fault>
 // Reads the first line of what is left of a sheet, and answers what follows it.
 fn read_line<'a>(draft: &mut Calendar, sheet: &'a [u8]) -> Result<&'a [u8], Fault>
     requires { 0 < length sheet.now }
-    ensures judged { (n : ℕ) → MatchResult result (λ rest. judged n (entries_of draft.old) (lines sheet.now) ≡ judged (n + 1) (entries_of draft.new) (lines rest.now)) (λ fault. judged n (entries_of draft.old) (lines sheet.now) ≡ Err (refused fault.cause fault.level n)) }
+    ensures read { IfOk result (λ rest. (n : ℕ) → judged n (entries_of draft.old) (lines sheet.now) ≡ judged (n + 1) (entries_of draft.new) (lines rest.now)) }
+    ensures fault { IfErr result (λ fault. (n : ℕ) → judged n (entries_of draft.old) (lines sheet.now) ≡ Err (refused fault.cause fault.level n)) }
     ensures shorter { IfOk result (λ rest. length rest.now < length sheet.now) }
 {
     let (line, rest) = first_line(sheet)?;

@@ -4,10 +4,10 @@ use Rattle.sheet.proofs.read_lines.Goals as goal
 
 pub returns-in-Err : goal.returns-in-Err
 returns-in-Err c =
-    (not_long c.args.sheet.now (omega arith) ∙ c.loop-rest.invariant.judged ∙ c.in-Err.ensures.judged c.loop-rest.number ∙ ap Err (sym c.at-in-Err.ensures), refl)
+    (not_long c.args.sheet.now (omega arith) ∙ c.loop-rest.invariant.judged ∙ c.in-Err.ensures.fault c.loop-rest.number ∙ ap Err (sym c.at-in-Err.ensures), refl)
 
 pub loop-rest-preserved : goal.loop-rest-preserved
 loop-rest-preserved c = record {
-  judged = c.loop-rest.invariant.judged ∙ c.in-Ok.ensures.judged c.loop-rest.number;
+  judged = c.loop-rest.invariant.judged ∙ c.in-Ok.ensures.read c.loop-rest.number;
   short = omega (arith, c.in-Ok.ensures.shorter, c.loop-rest.invariant.short);
 }
