@@ -1,9 +1,9 @@
 -- A text cut behind its first newline, and the newline at a text's end.
-use Rattle.std.proofs.Common.{◌≡◌, ℕ, suc, ◌+◌, ◌<◌, ◌≤◌, Bool, true, false, not, cond, eqb, ltb, List, [], ◌∷◌, ◌++◌, length, take, drop, Some, None, Option, sym, refl, ap, ◌∙◌, arith, Bor, MatchOption, ◌≢◌}
+use Rattle.std.proofs.Common.{◌≡◌, ℕ, suc, ◌+◌, ◌≤◌, Bool, true, false, not, cond, eqb, ltb, List, [], ◌∷◌, ◌++◌, length, take, drop, Some, None, Option, sym, refl, ap, ◌∙◌, arith, Bor, MatchOption, ◌≢◌}
 use Rattle.std.specs.List.{position, position_or_len}
 use Rattle.std.proofs.lemmas.List.{drop_all, take_all}
 use Rattle.std.specs.Option.{option_copied}
-use Rattle.std.proofs.lemmas.Bool.{cond_both, cond-false, eqb-true, ltb-false}
+use Rattle.std.proofs.lemmas.Bool.{cond-false, eqb-true, ltb-false}
 use Rattle.form.specs.Cut.{cut_line, ended, longer, prefixed}
 use Rattle.form.proofs.Words.{never, none_from}
 
@@ -39,19 +39,6 @@ cut_none s e =
     let n = position_or_len newline s + 1 in
     let all : length s ≤ n = omega (arith, ltb-false (position_or_len newline s) (length s) past) in
     cut_place s ∙ ap (λ t. (t, drop n s)) (take_all n s all) ∙ ap (λ t. (s, t)) (drop_all n s all)
-
--- what follows a line is shorter than the text
-rest_within : (s : List ℕ) → length (cut_line s).1 ≤ length s
-rest_within [] = omega arith
-rest_within (c ∷ cs) =
-    let more = rest_within cs in
-    cond_both (eqb c 10) (c ∷ [], cs) (longer c (cut_line cs)) (λ p. length p.1 ≤ length (c ∷ cs)) (λ e. omega arith) (λ e. omega arith)
-
-pub rest_shorter : (s : List ℕ) → 0 < length s → length (cut_line s).1 < length s
-rest_shorter [] some = absurd (omega arith)
-rest_shorter (c ∷ cs) some =
-    let more = rest_within cs in
-    cond_both (eqb c 10) (c ∷ [], cs) (longer c (cut_line cs)) (λ p. length p.1 < length (c ∷ cs)) (λ e. omega arith) (λ e. omega arith)
 
 prefixed_cond : (t : Bool) (x : ℕ) (xs : List ℕ) → prefixed x (cond t (Some xs) None) ≡ cond t (Some (x ∷ xs)) None
 prefixed_cond true x xs = refl

@@ -1,10 +1,9 @@
 -- The listing grows by one client's line.
-use Rattle.std.proofs.Common.{◌≡◌, ℕ, zero, suc, ◌+◌, ◌-◌, ◌≤◌, List, [], ◌∷◌, ◌++◌, Ok, Err, sym, ap, ◌∙◌, inl, inr, add-zero, arith}
+use Rattle.std.proofs.Common.{◌≡◌, ℕ, zero, suc, ◌+◌, ◌-◌, ◌≤◌, List, [], ◌∷◌, ◌++◌, Ok, sym, ap, ◌∙◌, add-zero, arith}
 use Rattle.std.specs.List.{range_with_len, flat_map}
 use Rattle.std.proofs.lemmas.List.{flat_map_more}
-use Rattle.std.proofs.lemmas.Bool.{cases_Bool, cond-false, cond-true}
-use Rattle.refusal.specs.declared.Refusal.TheVariants.{OutOfRange}
-use Rattle.numbers.specs.Range.{checked, in_range}
+use Rattle.std.proofs.lemmas.Bool.Decides.{nat_tests}
+use Rattle.numbers.specs.Range.{checked}
 
 counting_more : (a n : ℕ) → range_with_len a (suc n) ≡ range_with_len a n ++ (a + n) ∷ []
 counting_more a zero = ap (λ k. k ∷ []) (sym (add-zero a))
@@ -26,11 +25,4 @@ joined_counting f (suc n) low =
 
 -- a checked number is the number itself
 pub checked_same : (n x : ℕ) → Ok x ≡ checked n → x ≡ n
-checked_same n x h =
-    elim (cases_Bool (in_range n)) [
-      | inl t ↦ let e : checked n ≡ Ok n = cond-true (in_range n) _ _ t in cc
-      | inr f ↦
-          let e : checked n ≡ Err OutOfRange = cond-false (in_range n) _ _ f in
-          let z : ◌≡◌ {A = ℕ} 0 1 = cc in
-          absurd (omega arith)
-    ]
+checked_same n x h = grind (arith, nat_tests)

@@ -85,7 +85,11 @@ fn store_line<O: Outlet>(line: &[u8], outlet: &mut O) -> Result<usize, Refusal> 
 }
 
 // Takes the packet of a line out of the store again, and writes what is printed of it.
-fn carry_line<I: Inlet>(stored: Stored<'_>, inlet: &mut I, out: &mut [u8]) -> Result<usize, Refusal> {
+fn carry_line<I: Inlet>(
+    stored: Stored<'_>,
+    inlet: &mut I,
+    out: &mut [u8],
+) -> Result<usize, Refusal> {
     let count = stored.blocks?;
     let mut bytes = [0; BYTES];
     let read = packet_text::read_line(stored.line, &mut bytes)?;

@@ -41,9 +41,6 @@ wrote_more {at} {m} {n} {s} {t} {b} {o} {v} room one two =
       end_is = omega (arith, one.end_is, two.end_is, length-append s t);
     }
 
-no_text : (n : ℕ) → ◌≡◌ {A = List ℕ} (take n []) []
-no_text n = take_all n [] (omega arith)
-
 take_within : (n : ℕ) (s : List ℕ) → length (take n s) ≤ n
 take_within n s = omega (arith, length-take n s)
 
@@ -83,11 +80,6 @@ far {at} {m} {n} {s} {t} {b} {o} {v} past one two =
 pub puts_more : {at m n : ℕ} {s t b o v : List ℕ} → Puts at s b o m → Puts m t o v n → Puts at (s ++ t) b v n
 puts_more {at} {m} {n} {s} {t} {b} {o} {v} one two =
     ⊎_elim (λ past. far past one two) (λ room. near room one two) (cases_lt (length b) at)
-
-pub puts_none : (at : ℕ) (b : List ℕ) → Puts at [] b b at
-puts_none at b =
-    let none = no_text (length b - at) in
-    record { wrote = record { bytes = rw none (sym (laid_none at b)); end_is = rw none (sym (add-zero at)) } }
 
 -- a text that fits is written whole
 pub puts_whole : {at n : ℕ} {s b o : List ℕ} → at + length s ≤ length b → Puts at s b o n → Wrote at s b o n
