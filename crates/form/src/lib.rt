@@ -11,7 +11,7 @@ ghost use Rattle.form.specs.Reads.{line_by, Reads};
 ghost use Rattle.std.specs.List.{list_all};
 ghost use Rattle.std.specs.Option.{option_copied};
 
-use refusal::Refusal;
+use refusal::{Level, Refusal, SheetRefusal};
 
 /// The refusal of the mark level: a byte is no mark.
 #[derive(Clone, Copy, Debug, PartialEq, Eq)]
@@ -20,6 +20,56 @@ pub struct MarkError;
 /// The refusal of the form level: a text has not the form that is read.
 #[derive(Clone, Copy, Debug, PartialEq, Eq)]
 pub struct FormError;
+
+/// Why a line is refused: the cause, and the level that found it.
+#[derive(Clone, Copy, Debug, PartialEq, Eq)]
+pub struct Fault {
+    pub cause: Refusal,
+    pub level: Level,
+}
+
+impl Fault {
+    /// The refusal of the sheet whose line it is, counted from 1.
+    pub fn at(self, line: usize) -> SheetRefusal
+        ensures { result ≡ record { cause = self.cause; level = self.level; line = line } }
+    {
+        SheetRefusal {
+            cause: self.cause,
+            level: self.level,
+            line,
+        }
+    }
+}
+
+impl From<MarkError> for Fault {
+    ghost use Rattle.std.specs.Prelude.{◌≡◌};
+    ghost use Rattle.refusal.specs.declared.Refusal.TheVariants.{MarkNotAllowed};
+    ghost use Rattle.refusal.specs.declared.Level.TheVariants.{Marks};
+
+    ghost from_gives = { λ _ fault. fault ≡ record { cause = MarkNotAllowed; level = Marks } };
+
+    fn from(_error: MarkError) -> Fault {
+        Fault {
+            cause: Refusal::MarkNotAllowed,
+            level: Level::Marks,
+        }
+    }
+}
+
+impl From<FormError> for Fault {
+    ghost use Rattle.std.specs.Prelude.{◌≡◌};
+    ghost use Rattle.refusal.specs.declared.Refusal.TheVariants.{FormBroken};
+    ghost use Rattle.refusal.specs.declared.Level.TheVariants.{Forms};
+
+    ghost from_gives = { λ _ fault. fault ≡ record { cause = FormBroken; level = Forms } };
+
+    fn from(error: FormError) -> Fault {
+        Fault {
+            cause: Refusal::from(error),
+            level: Level::Forms,
+        }
+    }
+}
 
 impl From<FormError> for Refusal {
     ghost use Rattle.std.specs.Prelude.{◌≡◌};

@@ -14,77 +14,12 @@ ghost use Rattle.sheet.specs.Laws.{Gives, Lawful, Refused, WritesOut, sheet_text
 ghost use Rattle.sheet.specs.Verdict.{claimed, claims_of, fits, give, judged, leased, named, refused, used, verdict, weighed};
 
 use calendar::Calendar;
-use form::{FormError, Group, MarkError, closes, first_line, read_client, read_group};
+use form::{Fault, FormError, Group, closes, first_line, read_client, read_group};
 use numbers::{ClientNumber, SlotNumber};
 use refusal::{Level, Refusal, SheetRefusal};
 
 /// Bytes of the longest sheet.
 pub const LONGEST: usize = 16384;
-
-// Why a line is refused: the cause, and the level that found it.
-#[derive(Clone, Copy)]
-struct Fault {
-    cause: Refusal,
-    level: Level,
-}
-
-impl From<MarkError> for Fault {
-    ghost use Rattle.std.specs.Prelude.{◌≡◌};
-    ghost use Rattle.refusal.specs.declared.Refusal.TheVariants.{MarkNotAllowed};
-    ghost use Rattle.refusal.specs.declared.Level.TheVariants.{Marks};
-
-    ghost from_gives = { λ _ fault. fault ≡ record { cause = MarkNotAllowed; level = Marks } };
-
-    fn from(_error: MarkError) -> Fault {
-        Fault {
-            cause: Refusal::MarkNotAllowed,
-            level: Level::Marks,
-        }
-    }
-}
-
-impl From<FormError> for Fault {
-    ghost use Rattle.std.specs.Prelude.{◌≡◌};
-    ghost use Rattle.refusal.specs.declared.Refusal.TheVariants.{FormBroken};
-    ghost use Rattle.refusal.specs.declared.Level.TheVariants.{Forms};
-
-    ghost from_gives = { λ _ fault. fault ≡ record { cause = FormBroken; level = Forms } };
-
-    fn from(_error: FormError) -> Fault {
-        Fault {
-            cause: Refusal::FormBroken,
-            level: Level::Forms,
-        }
-    }
-}
-
-// A cause by itself is one that this level found.
-impl From<Refusal> for Fault {
-    ghost use Rattle.std.specs.Prelude.{◌≡◌};
-    ghost use Rattle.refusal.specs.declared.Level.TheVariants.{Calendar};
-
-    ghost from_gives = { λ cause fault. fault ≡ record { cause = cause; level = Calendar } };
-
-    fn from(cause: Refusal) -> Fault {
-        Fault {
-            cause,
-            level: Level::Calendar,
-        }
-    }
-}
-
-impl Fault {
-    // The sheet's refusal at this line, counted from 1.
-    fn at(self, line: usize) -> SheetRefusal
-        ensures { result ≡ refused self.cause self.level line }
-    {
-        SheetRefusal {
-            cause: self.cause,
-            level: self.level,
-            line,
-        }
-    }
-}
 
 // Gives the slots from first to last to a client; whether one of them had a client.
 fn give(draft: &mut Calendar, client: ClientNumber, first: SlotNumber, last: SlotNumber) -> bool
@@ -171,19 +106,23 @@ fn is_named(draft: &Calendar, client: u16) -> bool
 }
 
 // What a line's claims come to: a number out of range first, then the client, then its slots.
-fn weigh(known: bool, claims: Claims) -> Result<(), Refusal>
+fn weigh(known: bool, claims: Claims) -> Result<(), Fault>
     ensures lawful { OnOk result ((n : ℕ) (es : List ℕ) → weighed n known (claim_of es claims) ≡ Ok es) }
-    ensures cause { IfErr result (λ cause. (n : ℕ) (es : List ℕ) → weighed n known (claim_of es claims) ≡ Err (refused cause Level.Calendar n)) }
+    ensures fault { IfErr result (λ fault. (n : ℕ) (es : List ℕ) → weighed n known (claim_of es claims) ≡ Err (refused fault.cause fault.level n)) }
 {
-    if !claims.lawful {
-        Err(Refusal::OutOfRange)
+    let cause = if !claims.lawful {
+        Refusal::OutOfRange
     } else if known {
-        Err(Refusal::ClientTwice)
+        Refusal::ClientTwice
     } else if claims.twice {
-        Err(Refusal::SlotTwice)
+        Refusal::SlotTwice
     } else {
-        Ok(())
-    }
+        return Ok(());
+    };
+    Err(Fault {
+        cause,
+        level: Level::Calendar,
+    })
 }
 
 // Reads a line without its newline as a lease, and gives the lease's slots to its client.
@@ -194,8 +133,7 @@ fn lease(draft: &mut Calendar, line: &[u8]) -> Result<(), Fault>
     let (client, text) = read_client(line)?;
     let known = is_named(draft, client);
     let claims = claim_all(draft, client, text)?;
-    weigh(known, claims)?;
-    Ok(())
+    weigh(known, claims)
 }
 
 // Reads the first line of what is left of a sheet, and answers what follows it.
