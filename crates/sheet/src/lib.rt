@@ -27,6 +27,7 @@ fn give(draft: &mut Calendar, client: ClientNumber, first: SlotNumber, last: Slo
     ensures again { result ≡ used (record { first = first; last = last }) (entries_of draft.old) }
 {
     let mut again = false;
+    // by number, since `numbers` has no run of slots
     for number in first.number()..last.number() + 1 {
         if let Ok(slot) = SlotNumber::try_from(number) {
             if draft.client(slot).is_some() {
