@@ -3,6 +3,10 @@
 //! Main promise: none of its own; `packet_text`, `transfer` and `packet_report` read, carry and print, and `main` reads and writes bytes.
 #![tactic(auto)]
 
+ghost use Rattle.std.specs.Prelude.{◌≡◌, ◌≤◌, Some, IfErr, IfOk, length, take};
+ghost use Rattle.packet_text.specs.Lines.{line_form};
+ghost use Rattle.packets.specs.Carried.{LineCarried, LineRefused, LineStored};
+
 use block::Block;
 use numbers::ClientNumber;
 use port::{Inlet, Outlet};
@@ -75,36 +79,42 @@ struct Stored<'a> {
     blocks: Result<usize, Refusal>,
 }
 
-// Puts the packet of a line into the store, and answers how many blocks it has.
-fn store_line<O: Outlet>(line: &[u8], outlet: &mut O) -> Result<usize, Refusal> {
-    let mut bytes = [0; BYTES];
-    let read = packet_text::read_line(line, &mut bytes)?;
+// Reads the packet of a line into the bytes; answers its client and its length.
+fn read_packet(line: &[u8], bytes: &mut [u8; BYTES]) -> Result<(ClientNumber, usize), Refusal>
+    ensures read { IfOk result (λ p. line_form line.now ≡ Some (p.0, take p.1 bytes.new)) }
+    ensures within { IfOk result (λ p. p.1 ≤ length bytes.new) }
+    ensures refused { IfErr result (LineRefused (line_form line.now)) }
+{
+    let read = packet_text::read_line(line, bytes)?;
     let client = ClientNumber::try_from(read.client)?;
-    let packet = bytes.get(0..read.length).ok_or(Refusal::OutputTooShort)?;
-    transfer::put_packet(outlet, client, packet)
+    Ok((client, read.length))
+}
+
+// Puts the packet of a line into the store, and answers how many blocks it has.
+fn store_line<O: Outlet>(line: &[u8], outlet: &mut O) -> Result<usize, Refusal>
+    ensures { LineStored (line_form line.now) result (O.holding outlet.old) (O.holding outlet.new) }
+{
+    let mut bytes = [0; BYTES];
+    let (client, length) = read_packet(line, &mut bytes)?;
+    transfer::put_packet(outlet, client, &bytes[0..length])
 }
 
 // Takes the packet of a line out of the store again, and writes what is printed of it.
-fn carry_line<I: Inlet>(
-    stored: Stored<'_>,
-    inlet: &mut I,
-    out: &mut [u8],
-) -> Result<usize, Refusal> {
+fn carry_line<I: Inlet>(stored: Stored<'_>, inlet: &mut I, out: &mut [u8]) -> Result<usize, Refusal>
+    ensures { LineCarried (line_form stored.entry.line.now) stored.entry.blocks (I.waiting inlet.old) (I.waiting inlet.new) result out.old out.new }
+{
     let count = stored.blocks?;
-    let mut bytes = [0; BYTES];
-    let read = packet_text::read_line(stored.line, &mut bytes)?;
-    let client = ClientNumber::try_from(read.client)?;
+    let (client, length) = read_packet(stored.line, &mut [0; BYTES])?;
     let mut blocks = [Block::idle(); BLOCKS];
     let places = count.min(BLOCKS - 1);
     let mut back = [0; 2000];
-    let (length, _) = transfer::take_packet(
+    let (read, _) = transfer::take_packet(
         inlet,
         client,
         &mut blocks[0..places + places % 2],
         &mut back,
     )?;
-    let packet = back.get(0..length).ok_or(Refusal::OutputTooShort)?;
-    packet_report::carried_line(client, read.length, count, packet, out)
+    packet_report::carried_line(client, length, count, &back[0..read], out)
 }
 
 // Puts the packets of all lines into the store.
