@@ -1,5 +1,5 @@
 pub mod Words
-pub mod Digits
+pub mod Cuts
 pub mod Lines
 pub mod Numbers
 pub mod Texts

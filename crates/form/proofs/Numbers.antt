@@ -106,9 +106,6 @@ module _ (y : ℕ) (ys : List ℕ) (stop : digit y ≡ false) where
   end : (v : ℕ) → extended (v, y ∷ ys) ≡ (v, y ∷ ys)
   end v = extended_stops v (y ∷ ys) (leading_stops y ys stop)
 
-  reads_0 : number ((48 + 0) ∷ y ∷ ys) ≡ Some (0, y ∷ ys)
-  reads_0 = refl
-
   reads_1 : (a : ℕ) → 1 ≤ a → a < 10 → number ((48 + a) ∷ y ∷ ys) ≡ Some (a, y ∷ ys)
   reads_1 a l h = starts a (y ∷ ys) l h ∙ ap (λ p. Some (extended p)) (end a) ∙ ap Some (end a)
 

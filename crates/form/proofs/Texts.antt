@@ -75,7 +75,7 @@ group_shorter xs ys g e =
     let one : 0 < length (group_text g) = omega arith in
     omega arith
 
-some_same : {A : Type 0} {x y : A} → Some x ≡ Some y → x ≡ y
+pub some_same : {A : Type 0} {x y : A} → Some x ≡ Some y → x ≡ y
 some_same e = cc
 
 -- groups

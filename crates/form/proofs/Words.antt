@@ -1,5 +1,8 @@
 -- What follows a word: `after` takes off what `++` put in front.
-use Rattle.std.proofs.Common.{◌≡◌, ℕ, eqb, List, [], ◌∷◌, ◌++◌, Some, None, Option, sym, refl, ◌∙◌, ⊎_elim, arith}
+use Rattle.std.proofs.Common.{◌≡◌, ◌≢◌, ℕ, eqb, List, [], ◌∷◌, ◌++◌, Some, None, Option, MatchOption, Bor, sym, refl, ap, ◌∙◌, ⊎_elim, arith}
+use Rattle.std.specs.Option.{ok_or}
+use Rattle.form.specs.Reads.{Reads}
+use Rattle.form.specs.declared.FormError.{FormError}
 use Rattle.std.proofs.lemmas.Bool.{cond-true, cond-false, eq-eqb}
 use Rattle.std.proofs.lemmas.Bool.Decides.{eqb_tells}
 use Rattle.form.specs.Form.{after}
@@ -26,3 +29,11 @@ after_is (w ∷ ws) (x ∷ xs) ys e =
 
 pub after_none : (ws xs : List ℕ) → ((rest : List ℕ) → xs ≡ ws ++ rest → ⊥) → after ws xs ≡ None
 after_none ws xs h = none_from (after ws xs) (λ r e. h r (after_is ws xs r e))
+
+-- what `strip_prefix` leaves is what follows the word
+pub word_read :
+    (e : FormError) (text word : List ℕ) (r : Option (Bor (List ℕ))) →
+    MatchOption r ((rest : List ℕ) → text ≢ word ++ rest) (λ x. text ≡ word ++ x.now) →
+    Reads (λ rest. rest.now) (ok_or r e) (after word text)
+word_read e text word None h = after_none word text h
+word_read e text word (Some x) h = ap (after word) h ∙ after_append word x.now

@@ -1,5 +1,5 @@
 -- The form of a line: (client N (slots A B) (slots A B) ..), with single blanks and one or more groups.
-use Rattle.std.specs.Prelude.{◌≡◌, ℕ, zero, suc, ◌+◌, ◌-◌, ◌*◌, Bool, cond, List, [], ◌∷◌, length, Some, None, codes, Option, ◌==◌}
+use Rattle.std.specs.Prelude.{◌≡◌, ℕ, zero, suc, ◌+◌, ◌-◌, ◌*◌, Bool, if◌then◌else◌, List, [], ◌∷◌, length, Some, None, codes, Option, ◌==◌}
 use Rattle.std.specs.Str.{bytes_eq}
 use Rattle.form.specs.Marks.{digit}
 use Rattle.form.specs.Lease.{Group, Lease, Writable, lease_text}
@@ -12,12 +12,12 @@ bind (Some x) f = f x
 abbrev pub after : List ℕ → List ℕ → Option (List ℕ)
 after [] xs = Some xs
 after (w ∷ ws) [] = None
-after (w ∷ ws) (x ∷ xs) = cond (w == x) (after ws xs) None
+after (w ∷ ws) (x ∷ xs) = if w == x then after ws xs else None
 
 -- the digit that a text begins with, and what follows it
 abbrev pub leading : List ℕ → Option (ℕ × List ℕ)
 leading [] = None
-leading (x ∷ xs) = cond (digit x) (Some (x - 48, xs)) None
+leading (x ∷ xs) = if digit x then Some (x - 48, xs) else None
 
 -- a number with one more digit, if one follows it
 abbrev pub longer : ℕ × List ℕ → Option (ℕ × List ℕ) → ℕ × List ℕ
@@ -29,7 +29,7 @@ extended n = longer n (leading n.1)
 
 -- a number of one to three digits with no needless zero, and what follows it
 abbrev pub number : List ℕ → Option (ℕ × List ℕ)
-number xs = bind (leading xs) λ d. Some (cond (d.0 == 0) d (extended (extended d)))
+number xs = bind (leading xs) λ d. Some (if d.0 == 0 then d else extended (extended d))
 
 -- a line's opening, up to the client's number
 abbrev pub opening : List ℕ → Option (ℕ × List ℕ)
@@ -56,7 +56,7 @@ put_before g (Some gs) = Some (g ∷ gs)
 -- one or more groups and the closing bracket, in at most k groups
 abbrev pub groups : ℕ → List ℕ → Option (List Group)
 groups zero xs = None
-groups (suc k) xs = bind (group xs) λ g. cond (closes g.1) (Some (g.0 ∷ [])) (put_before g.0 (groups k g.1))
+groups (suc k) xs = bind (group xs) λ g. if closes g.1 then Some (g.0 ∷ []) else put_before g.0 (groups k g.1)
 
 -- the lease that a line without its newline writes; a text has no more groups than bytes
 abbrev pub form : List ℕ → Option Lease

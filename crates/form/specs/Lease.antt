@@ -1,5 +1,5 @@
 -- A lease, and how it is written out as a line of the sheet.
-use Rattle.std.specs.Prelude.{ℕ, ◌+◌, ◌/◌, ◌%◌, ◌<◌, cond, List, [], ◌∷◌, ◌++◌, codes, nat_lt}
+use Rattle.std.specs.Prelude.{ℕ, ◌+◌, ◌/◌, ◌%◌, ◌<◌, if◌then◌else◌, List, [], ◌∷◌, ◌++◌, codes, nat_lt}
 
 -- a group of slots, from the first to the last
 pub record Group : Type 0 where
@@ -14,9 +14,9 @@ pub record Lease : Type 0 where
 -- a number below 1,000 in decimal, with no needless zero
 abbrev pub decimal : ℕ → List ℕ
 decimal n =
-    cond (nat_lt n 10) ((48 + n) ∷ [])
-    (cond (nat_lt n 100) ((48 + n / 10) ∷ (48 + n % 10) ∷ [])
-    ((48 + n / 100) ∷ (48 + n / 10 % 10) ∷ (48 + n % 10) ∷ []))
+    if nat_lt n 10 then (48 + n) ∷ []
+    else if nat_lt n 100 then (48 + n / 10) ∷ (48 + n % 10) ∷ []
+    else (48 + n / 100) ∷ (48 + n / 10 % 10) ∷ (48 + n % 10) ∷ []
 
 abbrev pub group_text : Group → List ℕ
 group_text g = codes " (slots " ++ (decimal g.first ++ (codes " " ++ (decimal g.last ++ codes ")")))

@@ -1,3 +1,5 @@
 pub mod Lease
 pub mod Marks
 pub mod Form
+pub mod Cut
+pub mod Reads

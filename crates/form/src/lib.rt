@@ -1,13 +1,86 @@
-// The two lower levels of the sheet reader: marks (which bytes a sheet may hold, and its lines) and forms (a line as a lease).
-// A form is read piece by piece: a call answers a piece's value and the text behind it.
-// Main promise: a line is read as a lease exactly if it is that lease written out; all else is refused as a broken form.
+//! The two lower levels of the sheet reader: marks (which bytes a sheet may hold, and its lines) and forms (a line as a lease).
+//! A form is read piece by piece: a call answers a piece's value and the text behind it. Which line it is, only the level above knows.
+//! Main promise: a line is read as a lease exactly if it is that lease written out; all else is refused as a broken form.
 #![tactic(auto)]
 
-ghost use Rattle.std.specs.Prelude.{◌≡◌, ℕ, ◌+◌, ◌-◌, ◌*◌, ◌<◌, ◌≤◌, true, false, Some, None, MatchOption, MatchResult};
+ghost use Rattle.std.specs.Prelude.{◌≡◌, ◌+◌, ◌*◌, ◌<◌, ◌≤◌, ◌==◌, length, position, Some, None, is_ok, is_some, IfOk, IfSome, MatchOption};
+ghost use Rattle.form.specs.Cut.{cut_line, ended};
 ghost use Rattle.form.specs.Form.{after, leading, extended, number, opening, group, closes, FormExact};
-ghost use Rattle.form.specs.Marks.{mark_of, marked, first_line};
+ghost use Rattle.form.specs.Marks.{first_line, mark_of, marked};
+ghost use Rattle.form.specs.Reads.{line_by, Reads};
+ghost use Rattle.std.specs.List.{list_all};
+ghost use Rattle.std.specs.Option.{option_copied};
 
 use refusal::{Level, Refusal, SheetRefusal};
+
+/// The refusal of the mark level: a byte is no mark.
+#[derive(Clone, Copy, Debug, PartialEq, Eq)]
+pub struct MarkError;
+
+/// The refusal of the form level: a text has not the form that is read.
+#[derive(Clone, Copy, Debug, PartialEq, Eq)]
+pub struct FormError;
+
+/// Why a line is refused: the cause, and the level that found it.
+#[derive(Clone, Copy, Debug, PartialEq, Eq)]
+pub struct Fault {
+    pub cause: Refusal,
+    pub level: Level,
+}
+
+impl Fault {
+    /// The refusal of the sheet whose line it is, counted from 1.
+    pub fn at(self, line: usize) -> SheetRefusal
+        ensures { result ≡ record { cause = self.cause; level = self.level; line = line } }
+    {
+        SheetRefusal {
+            cause: self.cause,
+            level: self.level,
+            line,
+        }
+    }
+}
+
+impl From<MarkError> for Fault {
+    ghost use Rattle.std.specs.Prelude.{◌≡◌};
+    ghost use Rattle.refusal.specs.declared.Refusal.TheVariants.{MarkNotAllowed};
+    ghost use Rattle.refusal.specs.declared.Level.TheVariants.{Marks};
+
+    ghost from_gives = { λ _ fault. fault ≡ record { cause = MarkNotAllowed; level = Marks } };
+
+    fn from(_error: MarkError) -> Fault {
+        Fault {
+            cause: Refusal::MarkNotAllowed,
+            level: Level::Marks,
+        }
+    }
+}
+
+impl From<FormError> for Fault {
+    ghost use Rattle.std.specs.Prelude.{◌≡◌};
+    ghost use Rattle.refusal.specs.declared.Refusal.TheVariants.{FormBroken};
+    ghost use Rattle.refusal.specs.declared.Level.TheVariants.{Forms};
+
+    ghost from_gives = { λ _ fault. fault ≡ record { cause = FormBroken; level = Forms } };
+
+    fn from(error: FormError) -> Fault {
+        Fault {
+            cause: Refusal::from(error),
+            level: Level::Forms,
+        }
+    }
+}
+
+impl From<FormError> for Refusal {
+    ghost use Rattle.std.specs.Prelude.{◌≡◌};
+    ghost use Rattle.refusal.specs.declared.Refusal.TheVariants.{FormBroken};
+
+    ghost from_gives = { λ _ cause. cause ≡ FormBroken };
+
+    fn from(_error: FormError) -> Refusal {
+        Refusal::FormBroken
+    }
+}
 
 #[derive(Clone, Copy, Debug, PartialEq, Eq)]
 pub enum Mark {
@@ -20,7 +93,7 @@ pub enum Mark {
 }
 
 impl Mark {
-    // Which mark a byte is; none for a byte that a sheet may not hold.
+    /// Which mark a byte is; none for a byte that a sheet may not hold.
     pub fn of(byte: u8) -> Option<Mark>
         ensures { result ≡ mark_of byte }
     {
@@ -36,166 +109,126 @@ impl Mark {
     }
 }
 
-// A group of slots as a line writes it.
+/// A group of slots as a line writes it.
 #[derive(Clone, Copy, Debug, PartialEq, Eq)]
 pub struct Group {
     pub first: u16,
     pub last: u16,
 }
 
-// What is still to be read of a line, and the line's number.
-#[derive(Clone, Copy)]
-pub struct Text<'a> {
-    pub rest: &'a [u8],
-    pub line: usize,
-}
-
-impl<'a> Text<'a> {
-    fn broken(self) -> SheetRefusal
-        ensures { result ≡ record { cause = Refusal.FormBroken; level = Level.Forms; line = self.entry.line } }
-    {
-        SheetRefusal {
-            cause: Refusal::FormBroken,
-            level: Level::Forms,
-            line: self.line,
-        }
-    }
-
-    // What follows a word.
-    fn word(self, word: &[u8]) -> Result<Text<'a>, SheetRefusal>
-        ensures { MatchResult result (λ t. (after word.now self.entry.rest.now ≡ Some t.rest.now) × (t.line ≡ self.entry.line)) (λ e. (after word.now self.entry.rest.now ≡ None) × (e ≡ record { cause = Refusal.FormBroken; level = Level.Forms; line = self.entry.line })) }
-    {
-        match self.rest.strip_prefix(word) {
-            Some(rest) => Ok(Text {
-                rest,
-                line: self.line,
-            }),
-            None => Err(self.broken()),
-        }
-    }
-
-    // The digit that the text begins with.
-    fn digit(self) -> Option<(u16, Text<'a>)>
-        ensures { MatchOption result (leading self.entry.rest.now ≡ None) (λ p. (leading self.entry.rest.now ≡ Some (p.0, p.1.rest.now)) × (p.0 < 10) × (p.1.line ≡ self.entry.line)) }
-    {
-        match self.rest {
-            [digit @ b'0'..=b'9', rest @ ..] => Some((
-                u16::from(*digit - b'0'),
-                Text {
-                    rest,
-                    line: self.line,
-                },
-            )),
-            _ => None,
-        }
-    }
-
-    // A number with one more digit, if one follows it.
-    fn extended(self, value: u16) -> (u16, Text<'a>)
-        requires { value < 1000 }
-        ensures { ((result.0, result.1.rest.now) ≡ extended (value, self.entry.rest.now)) × (result.0 < 10 * value + 10) × (result.1.line ≡ self.entry.line) }
-    {
-        match self.digit() {
-            Some((digit, text)) => (10 * value + digit, text),
-            None => (value, self),
-        }
-    }
-
-    // A number of one to three digits with no needless zero.
-    fn number(self) -> Result<(u16, Text<'a>), SheetRefusal>
-        ensures { MatchResult result (λ p. (number self.entry.rest.now ≡ Some (p.0, p.1.rest.now)) × (p.0 < 1000) × (p.1.line ≡ self.entry.line)) (λ e. (number self.entry.rest.now ≡ None) × (e ≡ record { cause = Refusal.FormBroken; level = Level.Forms; line = self.entry.line })) }
-    {
-        let Some((first, text)) = self.digit() else {
-            return Err(self.broken());
-        };
-        if first == 0 {
-            return Ok((0, text));
-        }
-        let (value, text) = text.extended(first);
-        Ok(text.extended(value))
-    }
-
-    // A line's opening, up to the client's number.
-    pub fn client(self) -> Result<(u16, Text<'a>), SheetRefusal>
-        ensures { MatchResult result (λ p. (opening self.entry.rest.now ≡ Some (p.0, p.1.rest.now)) × (p.0 < 1000) × (p.1.line ≡ self.entry.line)) (λ e. (opening self.entry.rest.now ≡ None) × (e ≡ record { cause = Refusal.FormBroken; level = Level.Forms; line = self.entry.line })) }
-    {
-        self.word(b"(client ")?.number()
-    }
-
-    // A group of slots, with the blank in front of it.
-    pub fn group(self) -> Result<(Group, Text<'a>), SheetRefusal>
-        ensures { MatchResult result (λ p. (group self.entry.rest.now ≡ Some (record { first = p.0.first; last = p.0.last }, p.1.rest.now)) × (p.1.line ≡ self.entry.line)) (λ e. (group self.entry.rest.now ≡ None) × (e ≡ record { cause = Refusal.FormBroken; level = Level.Forms; line = self.entry.line })) }
-    {
-        let (first, text) = self.word(b" (slots ")?.number()?;
-        let (last, text) = text.word(b" ")?.number()?;
-        let text = text.word(b")")?;
-        Ok((Group { first, last }, text))
-    }
-
-    // Whether just the closing bracket is left.
-    pub fn closes(self) -> bool
-        ensures { result ≡ closes self.entry.rest.now }
-    {
-        let bracket: &[u8] = b")";
-        self.rest == bracket
-    }
-}
-
-// A line of the sheet without its newline, and whether a newline ends it.
-#[derive(Clone, Copy)]
-pub struct Line<'a> {
-    pub text: Text<'a>,
-    pub ended: bool,
-}
-
-impl<'a> Line<'a> {
-    // The text of a line that a newline ends.
-    pub fn whole(self) -> Result<Text<'a>, SheetRefusal>
-        ensures { MatchResult result (λ t. (self.entry.ended ≡ true) × (t ≡ self.entry.text)) (λ e. (self.entry.ended ≡ false) × (e ≡ record { cause = Refusal.FormBroken; level = Level.Forms; line = self.entry.text.line })) }
-    {
-        if self.ended {
-            Ok(self.text)
-        } else {
-            Err(self.text.broken())
-        }
-    }
-}
-
-// The first line of what is left of a sheet, and what follows the line.
-pub fn first_line(sheet: &[u8], number: usize) -> Result<(Line<'_>, &[u8]), SheetRefusal>
-    ensures { MatchResult result (λ p. ((record { text = p.0.text.rest.now; ended = p.0.ended }, p.1.now) ≡ first_line sheet.now) × (marked (first_line sheet.now).0.text ≡ true) × (p.0.text.line ≡ number)) (λ e. (marked (first_line sheet.now).0.text ≡ false) × (e ≡ record { cause = Refusal.MarkNotAllowed; level = Level.Marks; line = number })) }
+// The place of the first newline.
+fn newline(text: &[u8]) -> Option<usize>
+    ensures value { result ≡ position (λ byte. byte == 10) text.now }
+    ensures within { IfSome result (λ place. place < length text.now) }
 {
-    for i in 0..sheet.len() {
-        let Some(mark) = Mark::of(sheet[i]) else {
-            return Err(SheetRefusal {
-                cause: Refusal::MarkNotAllowed,
-                level: Level::Marks,
-                line: number,
-            });
-        };
-        if let Mark::LineEnd = mark {
-            let text = Text {
-                rest: &sheet[0..i],
-                line: number,
-            };
-            return Ok((Line { text, ended: true }, &sheet[i + 1..]));
-        }
-    }
-    Ok((
-        Line {
-            text: Text {
-                rest: sheet,
-                line: number,
-            },
-            ended: false,
-        },
-        &sheet[sheet.len()..],
-    ))
+    text.iter().position(|byte| *byte == b'\n')
 }
 
-// A text is read as a lease exactly if it is that lease written out.
-pub fn forms_are_exact() -> u8
+/// The text up to its first newline, which is included, and what follows.
+pub fn cut_line(text: &[u8]) -> (&[u8], &[u8])
+    ensures { (result.0.now, result.1.now) ≡ cut_line text.now }
+{
+    match newline(text) {
+        Some(end) => (&text[..end + 1], &text[end + 1..]),
+        None => (text, &[]),
+    }
+}
+
+/// A line's text without the newline that ends it, if one does.
+pub fn line_text(line: &[u8]) -> Option<&[u8]>
+    ensures { option_copied result ≡ ended line.now }
+{
+    line.strip_suffix(b"\n")
+}
+
+// Whether every byte is a mark.
+fn all_marks(line: &[u8]) -> bool
+    ensures { result ≡ list_all (λ byte. is_some (mark_of byte)) line.now }
+{
+    line.iter().all(|byte| Mark::of(*byte).is_some())
+}
+
+/// The first line of what is left of a sheet, without its newline, and what follows the line; no line where no newline ends it.
+pub fn first_line(sheet: &[u8]) -> Result<(Option<&[u8]>, &[u8]), MarkError>
+    ensures line { IfOk result (λ p. (line_by sheet.now (option_copied p.0), p.1.now) ≡ first_line sheet.now) }
+    ensures marks { is_ok result ≡ marked (first_line sheet.now).0.text }
+{
+    let (line, rest) = cut_line(sheet);
+    if all_marks(line) {
+        Ok((line_text(line), rest))
+    } else {
+        Err(MarkError)
+    }
+}
+
+/// What follows a word.
+pub fn word<'a>(text: &'a [u8], word: &[u8]) -> Result<&'a [u8], FormError>
+    ensures { Reads (λ rest. rest.now) result (after word.now text.now) }
+{
+    text.strip_prefix(word).ok_or(FormError)
+}
+
+// The decimal digit that the text begins with.
+fn digit(text: &[u8]) -> Option<(u16, &[u8])>
+    ensures { MatchOption result (leading text.now ≡ None) (λ p. (leading text.now ≡ Some (p.0, p.1.now)) × (p.0 < 10)) }
+{
+    match text {
+        [digit @ b'0'..=b'9', rest @ ..] => Some((u16::from(*digit - b'0'), rest)),
+        _ => None,
+    }
+}
+
+// A number with one more digit, if one follows it.
+fn extended(value: u16, text: &[u8]) -> (u16, &[u8])
+    requires { value < 1000 }
+    ensures { ((result.0, result.1.now) ≡ extended (value, text.now)) × (result.0 < 10 * value + 10) }
+{
+    match digit(text) {
+        Some((digit, rest)) => (10 * value + digit, rest),
+        None => (value, text),
+    }
+}
+
+/// A number of one to three decimal digits with no needless zero, and what follows it.
+pub fn number(text: &[u8]) -> Result<(u16, &[u8]), FormError>
+    ensures value { Reads (λ p. (p.0, p.1.now)) result (number text.now) }
+    ensures high { IfOk result (λ p. p.0 < 1000) }
+{
+    let (first, rest) = digit(text).ok_or(FormError)?;
+    if first == 0 {
+        return Ok((0, rest));
+    }
+    let (value, rest) = extended(first, rest);
+    Ok(extended(value, rest))
+}
+
+/// A line's opening, up to the client's number, and what follows it.
+pub fn read_client(text: &[u8]) -> Result<(u16, &[u8]), FormError>
+    ensures value { Reads (λ p. (p.0, p.1.now)) result (opening text.now) }
+    ensures high { IfOk result (λ p. p.0 < 1000) }
+{
+    number(word(text, b"(client ")?)
+}
+
+/// A group of slots, with the blank in front of it, and what follows it.
+pub fn read_group(text: &[u8]) -> Result<(Group, &[u8]), FormError>
+    ensures { Reads (λ p. (record { first = p.0.first; last = p.0.last }, p.1.now)) result (group text.now) }
+{
+    let (first, text) = number(word(text, b" (slots ")?)?;
+    let (last, text) = number(word(text, b" ")?)?;
+    let text = word(text, b")")?;
+    Ok((Group { first, last }, text))
+}
+
+/// Whether just the closing bracket is left.
+pub fn closes(text: &[u8]) -> bool
+    ensures { result ≡ closes text.now }
+{
+    let bracket: &[u8] = b")";
+    text == bracket
+}
+
+/// A text is read as a lease exactly if it is that lease written out.
+pub fn forms_are_exact()
     ensures { FormExact }
-{
-    0
-}
+{}

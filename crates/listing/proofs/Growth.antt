@@ -1,12 +1,9 @@
 -- The listing grows by one client's line.
-use Rattle.std.proofs.Common.{◌≡◌, ℕ, zero, suc, ◌+◌, ◌-◌, ◌≤◌, eqb, List, [], ◌∷◌, ◌++◌, Ok, Err, sym, ap, ◌∙◌, inl, inr, add-zero, arith}
+use Rattle.std.proofs.Common.{◌≡◌, ℕ, zero, suc, ◌+◌, ◌-◌, ◌≤◌, List, [], ◌∷◌, ◌++◌, Ok, sym, ap, ◌∙◌, add-zero, arith}
 use Rattle.std.specs.List.{range_with_len, flat_map}
-use Rattle.std.proofs.lemmas.List.{append-nil, flat_map_more}
-use Rattle.std.proofs.lemmas.Bool.{cases_Bool, cond-false, cond-true, eq-eqb, ne_eqb}
-use Rattle.refusal.specs.declared.Refusal.TheVariants.{OutOfRange}
-use Rattle.numbers.specs.Range.{checked, in_range}
-use Rattle.calendar.specs.Share.{first_slot, slot_count}
-use Rattle.listing.specs.Lines.{client_line, line_of}
+use Rattle.std.proofs.lemmas.List.{flat_map_more}
+use Rattle.std.proofs.lemmas.Bool.Decides.{nat_tests}
+use Rattle.numbers.specs.Range.{checked}
 
 counting_more : (a n : ℕ) → range_with_len a (suc n) ≡ range_with_len a n ++ (a + n) ∷ []
 counting_more a zero = ap (λ k. k ∷ []) (sym (add-zero a))
@@ -28,35 +25,4 @@ joined_counting f (suc n) low =
 
 -- a checked number is the number itself
 pub checked_same : (n x : ℕ) → Ok x ≡ checked n → x ≡ n
-checked_same n x h =
-    elim (cases_Bool (in_range n)) [
-      | inl t ↦ let e : checked n ≡ Ok n = cond-true (in_range n) _ _ t in cc
-      | inr f ↦
-          let e : checked n ≡ Err OutOfRange = cond-false (in_range n) _ _ f in
-          let z : ◌≡◌ {A = ℕ} 0 1 = cc in
-          absurd (omega arith)
-    ]
-
--- a client with slots adds its line
-pub some_more :
-    (es : List ℕ) (n count first : ℕ) → 1 ≤ n →
-    count ≡ slot_count n es → first ≡ first_slot n es → (count ≡ 0 → ⊥) →
-    flat_map (client_line es) (range_with_len 1 (n - 1)) ++ line_of n count first ≡ flat_map (client_line es) (range_with_len 1 (n + 1 - 1))
-some_more es n count first low count-is first_is some =
-    let same : n + 1 - 1 ≡ n = omega arith in
-    let own : client_line es n ≡ line_of n (slot_count n es) (first_slot n es) =
-    cond-false (eqb (slot_count n es) 0) _ _ (ne_eqb (slot_count n es) 0 (λ z. some (count-is ∙ z))) in
-    let grown = joined_counting (client_line es) n low in
-    cc
-
--- a client without adds nothing
-pub none_more :
-    (es : List ℕ) (n count : ℕ) → 1 ≤ n → count ≡ slot_count n es → count ≡ 0 →
-    flat_map (client_line es) (range_with_len 1 (n - 1)) ≡ flat_map (client_line es) (range_with_len 1 (n + 1 - 1))
-none_more es n count low count-is none =
-    let same : n + 1 - 1 ≡ n = omega arith in
-    let own : client_line es n ≡ [] =
-    cond-true (eqb (slot_count n es) 0) _ _ (eq-eqb (slot_count n es) 0 (sym count-is ∙ none)) in
-    let grown = joined_counting (client_line es) n low in
-    let end = append-nil (flat_map (client_line es) (range_with_len 1 (n - 1))) in
-    cc
+checked_same n x h = grind (arith, nat_tests)

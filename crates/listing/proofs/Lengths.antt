@@ -1,5 +1,5 @@
 -- How many bytes a line and a listing have.
-use Rattle.std.proofs.Common.{◌≡◌, ℕ, zero, suc, ◌+◌, ◌-◌, ◌*◌, ◌≤◌, eqb, List, [], ◌++◌, length, decimal, ap, inl, inr, arith}
+use Rattle.std.proofs.Common.{◌≡◌, ℕ, zero, suc, ◌+◌, ◌-◌, ◌*◌, ◌^◌, ◌<◌, ◌≤◌, eqb, List, [], ◌++◌, length, decimal, ap, inl, inr, arith}
 use Rattle.std.proofs.lemmas.Fmt.{length-decimal-le}
 use Rattle.std.proofs.lemmas.List.{length-append}
 use Rattle.std.proofs.lemmas.Bool.{cases_Bool, cases_eq, cond-false, cond-true}
@@ -7,7 +7,9 @@ use Rattle.std.specs.List.{range_with_len, flat_map}
 use Rattle.calendar.proofs.Shares.{count_le, share_law}
 use Rattle.calendar.specs.Share.{first_slot, slot_count}
 use Rattle.listing.proofs.Growth.{joined_counting}
-use Rattle.listing.specs.Lines.{client_line, line_of}
+use Rattle.refusal.specs.declared.Refusal.{Refusal}
+use Rattle.refusal.specs.Numbers.{number_of}
+use Rattle.listing.specs.Lines.{client_line, line_of, refused_line}
 
 pub length_line :
     (client count first : ℕ) →
@@ -62,3 +64,10 @@ short_lines es (suc n) full high =
       short_lines es n full (omega arith),
       short_client es (suc n) full high,
     )
+
+-- a cause's number has at most three digits, and a line's at most twenty
+pub short_refusal : (cause : Refusal) (line : ℕ) → number_of cause < 2 ^ 8 → line < 2 ^ 64 → length (refused_line cause line) ≤ 38
+short_refusal cause line small bound =
+    let number = length-decimal-le 3 (number_of cause) (omega arith) (omega arith) (omega arith) in
+    let last = length-decimal-le 20 line (omega arith) (omega arith) (omega arith) in
+    simp length-append (omega arith)

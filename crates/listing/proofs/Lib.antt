@@ -1,4 +1,3 @@
 pub mod Computed
 pub mod Growth
-pub mod Laid
 pub mod Lengths

@@ -1,19 +1,10 @@
--- The bytes of a calendar's listing, and of the line that says why a sheet was refused; and where they are written.
-use Rattle.std.specs.Prelude.{◌≡◌, ℕ, ◌+◌, ◌^◌, ◌<◌, cond, List, [], ◌++◌, length, take, drop, codes, decimal, ◌==◌, slice_index}
+-- The bytes of a calendar's listing, and of the line that says why a sheet was refused.
+use Rattle.std.specs.Prelude.{◌≡◌, ℕ, ◌^◌, ◌<◌, if◌then◌else◌, List, [], ◌++◌, codes, decimal, ◌==◌, slice_index}
 use Rattle.std.specs.List.{range_with_len, flat_map}
 use Rattle.std.specs.Str.Parse.{IsNumeral, digits_value}
 use Rattle.refusal.specs.declared.Refusal.{Refusal}
 use Rattle.refusal.specs.Numbers.{number_of}
 use Rattle.calendar.specs.Share.{slot_count, first_slot}
-
--- a buffer with a text from place `at` on; its other bytes are as before
-abbrev pub laid : ℕ → List ℕ → List ℕ → List ℕ
-laid at text buffer = take at buffer ++ (text ++ drop (at + length text) buffer)
-
--- a text was written from place `at` on: what the buffer holds after, and the place after the text
-pub record Wrote (at : ℕ) (text before after : List ℕ) (end : ℕ) : Type 0 where
-  pub bytes : after ≡ laid at text before
-  pub end_is : end ≡ at + length text
 
 -- client, slot count and first slot, with single blanks, and a newline
 abbrev pub line_of : ℕ → ℕ → ℕ → List ℕ
@@ -21,7 +12,7 @@ line_of client count first = decimal client ++ (codes " " ++ (decimal count ++ (
 
 -- a client's line; none if it has no slot
 abbrev pub client_line : List ℕ → ℕ → List ℕ
-client_line es c = cond (slot_count c es == 0) [] (line_of c (slot_count c es) (first_slot c es))
+client_line es c = if slot_count c es == 0 then [] else line_of c (slot_count c es) (first_slot c es)
 
 -- the lines of clients 1 to 480, by rising client
 abbrev pub listing_of : List ℕ → List ℕ

@@ -1,108 +1,84 @@
-// The text that is printed of a calendar, and of a refused lease sheet, as bytes in memory that the caller lends.
-// A line for each client that has slots, by rising client: client, slot count, first slot.
-// Main promise: the bytes written are those that the definition `listing_of`, or `refused_line`, gives; all others stay.
+//! The text that is printed of a calendar, and of a refused lease sheet, as bytes in memory that the caller lends.
+//! A line for each client that has slots, by rising client: client, slot count, first slot.
+//! Main promise: the bytes written are those that the definition `listing_of`, or `refused_line`, gives; all others stay.
 #![tactic(auto)]
 
-ghost use Rattle.std.specs.Prelude.{◌+◌, ◌≤◌, ◌++◌, length, decimal};
+ghost use Rattle.std.specs.Prelude.{◌≡◌, ◌≤◌};
 ghost use Rattle.calendar.specs.Entries.{entries_of};
-ghost use Rattle.listing.specs.Lines.{PlainDecimals, Wrote, line_of, listing_of, refused_line};
+ghost use Rattle.listing.specs.Lines.{PlainDecimals, client_line, line_of, listing_of, refused_line};
 ghost use Rattle.listing.specs.Sample.{Samples};
+ghost use Rattle.text_out.specs.Wrote.{Puts, Wrote};
 
 use calendar::Calendar;
 use numbers::ClientNumber;
 use refusal::Refusal;
+use text_out::TextOut;
 
-// Bytes that hold any listing: 480 lines of at most 12, as "480 480 480\n".
+/// Bytes that hold any listing: 480 lines of at most 12, as "480 480 480\n".
 pub const LISTING_LEN: usize = 480 * 12;
 
-// Bytes that hold any refusal line: "refused ", a number of at most 3 digits, " line ", one of at most 20, "\n".
+/// Bytes that hold any refusal line: "refused ", a number of at most 3 digits, " line ", one of at most 20, "\n".
 pub const REFUSAL_LEN: usize = 8 + 3 + 6 + 20 + 1;
 
-// Writes a text from place `at` on, and answers the place after it.
-fn put(out: &mut [u8], at: usize, text: &[u8]) -> usize
-    requires { at + length text.now ≤ length out.old }
-    ensures { Wrote at text.now out.old out.new result }
+// Writes a line of the listing.
+fn put_line(text: &mut TextOut<'_>, client: u16, count: u16, first: u16)
+    ensures same { text.new.places.ghost_name ≡ text.old.places.ghost_name }
+    ensures puts { Puts text.old.len (line_of client count first) text.old.places.now text.new.places.now text.new.len }
 {
-    let end = at + text.len();
-    out[at..end].copy_from_slice(text);
-    end
+    text.put_number(usize::from(client), b" ");
+    text.put_number(usize::from(count), b" ");
+    text.put_number(usize::from(first), b"\n");
 }
 
-// Writes a number in decimal likewise.
-fn put_decimal(out: &mut [u8], at: usize, number: usize) -> usize
-    requires { at + length (decimal number) ≤ length out.old }
-    ensures { Wrote at (decimal number) out.old out.new result }
+// Writes a client's line, if it has slots.
+fn put_client(text: &mut TextOut<'_>, calendar: &Calendar, client: ClientNumber)
+    ensures same { text.new.places.ghost_name ≡ text.old.places.ghost_name }
+    ensures puts { Puts text.old.len (client_line (entries_of calendar.now) client) text.old.places.now text.new.places.now text.new.len }
 {
-    let last = if number < 10 {
-        at
-    } else {
-        put_decimal(out, at, number / 10)
-    };
-    out[last] = b'0' + (number % 10) as u8;
-    last + 1
+    let (count, first) = calendar.share(client);
+    if count != 0 {
+        put_line(text, client.number(), count, first);
+    }
 }
 
-// Writes a number in decimal and the text after it likewise.
-fn put_number(out: &mut [u8], at: usize, number: usize, text: &[u8]) -> usize
-    requires { at + (length (decimal number) + length text.now) ≤ length out.old }
-    ensures { Wrote at (decimal number ++ text.now) out.old out.new result }
-{
-    let end = put_decimal(out, at, number);
-    put(out, end, text)
-}
-
-// Writes a line of the listing likewise.
-fn put_line(out: &mut [u8], at: usize, client: u16, count: u16, first: u16) -> usize
-    requires { at + length (line_of client count first) ≤ length out.old }
-    ensures { Wrote at (line_of client count first) out.old out.new result }
-{
-    let at = put_number(out, at, client as usize, b" ");
-    let at = put_number(out, at, count as usize, b" ");
-    put_number(out, at, first as usize, b"\n")
-}
-
-// Writes the listing of a calendar, and answers how many bytes it has.
+/// Writes the listing of a calendar, and answers how many bytes it has.
 pub fn listing(calendar: &Calendar, out: &mut [u8; LISTING_LEN]) -> usize
     ensures wrote { Wrote 0 (listing_of (entries_of calendar.now)) out.old out.new result }
     ensures fits { result ≤ 5760 }
 {
-    let mut at = 0;
+    let mut text = TextOut::new(out);
+    // by number, since `numbers` has no run of all clients
     for number in 1..=480u16 {
         let Ok(client) = ClientNumber::try_from(number) else {
             unreachable()
         };
-        let (count, first) = calendar.share(client);
-        if count != 0 {
-            at = put_line(out, at, number, count, first);
-        }
+        put_client(&mut text, calendar, client);
     }
-    at
+    text.finish()
 }
 
-// Writes the line printed of a refused sheet, and answers how many bytes it has.
+/// Writes the line printed of a refused sheet, and answers how many bytes it has.
 pub fn refusal_line(cause: Refusal, line: usize, out: &mut [u8; REFUSAL_LEN]) -> usize
     ensures wrote { Wrote 0 (refused_line cause line) out.old out.new result }
     ensures fits { result ≤ 38 }
 {
-    let number = cause.number() as usize;
-    let at = put(out, 0, b"refused ");
-    let at = put_number(out, at, number, b" line ");
-    put_number(out, at, line, b"\n")
+    let number = usize::from(cause.number());
+    let mut text = TextOut::new(out);
+    text.put(b"refused ");
+    text.put_number(number, b" line ");
+    text.put_number(line, b"\n");
+    text.finish()
 }
 
-// Numbers are written in decimal with no needless zero.
-pub fn decimals_are_plain() -> u8
+/// Numbers are written in decimal with no needless zero.
+pub fn decimals_are_plain()
     ensures { PlainDecimals }
-{
-    0
-}
+{}
 
-// A calendar and a refusal written out have the bytes that the definitions give.
-pub fn samples_hold() -> u8
+/// A calendar and a refusal written out have the bytes that the definitions give.
+pub fn samples_hold()
     ensures { Samples }
-{
-    0
-}
+{}
 
 #[cfg(test)]
 mod tests {

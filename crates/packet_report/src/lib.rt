@@ -1,52 +1,20 @@
-// What is printed of packets, as bytes in memory that the caller lends: a line for a packet carried, and one for a refusal.
-// Numbers are in decimal, and a packet's bytes in hexadecimal, two digits a byte in small letters.
-// Main promise: the bytes written are those that the definition `carried_text`, or `refused_text`, gives; all others stay.
+//! What is printed of packets, as bytes in memory that the caller lends: a line for a packet carried, and one for a refusal.
+//! Numbers are in decimal, and a packet's bytes in hexadecimal, two digits a byte in small letters.
+//! Main promise: the bytes written are those that the definition `carried_text`, or `refused_text`, gives; all others stay.
 #![tactic(auto)]
 
-ghost use Rattle.std.specs.Prelude.{◌≡◌, ◌+◌, ◌*◌, ◌<◌, ◌≤◌, ◌++◌, length, decimal, nat_le};
-ghost use Rattle.listing.specs.Lines.{Wrote};
+ghost use Rattle.std.specs.Prelude.{◌≡◌, ◌<◌, [], ◌∷◌, length, nat_le};
 ghost use Rattle.packet.specs.Answers.{leaves};
-ghost use Rattle.packet_text.specs.Hex.{hex_digit, hex_text};
+ghost use Rattle.packet_text.specs.Hex.{hex_byte, hex_digit, hex_text};
 ghost use Rattle.packet_report.specs.Texts.{carried_text, counts_text, print_answer, refused_text, room_for};
+ghost use Rattle.text_out.specs.Wrote.{Puts};
 
 use numbers::ClientNumber;
 use refusal::Refusal;
+use text_out::TextOut;
 
-// Places that a printed line takes at most, besides two for each byte of a packet in it.
+/// Places that a printed line takes at most, besides two for each byte of a packet in it.
 pub const ROOM: usize = 128;
-
-// Writes a text from place `at` on, and answers the place after it.
-fn put(out: &mut [u8], at: usize, text: &[u8]) -> usize
-    requires { at + length text.now ≤ length out.old }
-    ensures { Wrote at text.now out.old out.new result }
-{
-    let end = at + text.len();
-    out[at..end].copy_from_slice(text);
-    end
-}
-
-// Writes a number in decimal likewise.
-fn put_decimal(out: &mut [u8], at: usize, number: usize) -> usize
-    requires { at + length (decimal number) ≤ length out.old }
-    ensures { Wrote at (decimal number) out.old out.new result }
-{
-    let last = if number < 10 {
-        at
-    } else {
-        put_decimal(out, at, number / 10)
-    };
-    out[last] = b'0' + (number % 10) as u8;
-    last + 1
-}
-
-// Writes a number in decimal and the text after it likewise.
-fn put_number(out: &mut [u8], at: usize, number: usize, text: &[u8]) -> usize
-    requires { at + (length (decimal number) + length text.now) ≤ length out.old }
-    ensures { Wrote at (decimal number ++ text.now) out.old out.new result }
-{
-    let end = put_decimal(out, at, number);
-    put(out, end, text)
-}
 
 // The hexadecimal digit of a number below 16.
 fn hex_digit(value: u8) -> u8
@@ -60,30 +28,26 @@ fn hex_digit(value: u8) -> u8
     }
 }
 
-// Writes bytes in hexadecimal likewise.
-fn put_hex(out: &mut [u8], at: usize, bytes: &[u8]) -> usize
-    requires { at + 2 * length bytes.now ≤ length out.old }
-    ensures { Wrote at (hex_text bytes.now) out.old out.new result }
+// Writes bytes in hexadecimal. The kit's `hex::encode_to_slice` refuses an output that is longer than the digits, so each byte is
+// written by itself.
+fn put_hex(text: &mut TextOut<'_>, bytes: &[u8])
+    ensures same { text.new.places.ghost_name ≡ text.old.places.ghost_name }
+    ensures puts { Puts text.old.len (hex_text bytes.now) text.old.places.now text.new.places.now text.new.len }
 {
-    let mut end = at;
     for byte in bytes {
-        out[end] = hex_digit(*byte / 16);
-        out[end + 1] = hex_digit(*byte % 16);
-        end += 2;
+        text.put(&[hex_digit(*byte / 16), hex_digit(*byte % 16)]);
     }
-    end
 }
 
-// Writes a packet's client, bytes and blocks from place 0 on.
-fn put_counts(out: &mut [u8], client: u16, bytes: usize, blocks: usize) -> usize
-    requires { 128 ≤ length out.old }
-    ensures wrote { Wrote 0 (counts_text client bytes blocks) out.old out.new result }
-    ensures short { result ≤ 81 }
+// Writes a packet's client, bytes and blocks.
+fn put_counts(text: &mut TextOut<'_>, client: u16, bytes: usize, blocks: usize)
+    ensures same { text.new.places.ghost_name ≡ text.old.places.ghost_name }
+    ensures puts { Puts text.old.len (counts_text client bytes blocks) text.old.places.now text.new.places.now text.new.len }
 {
-    let at = put(out, 0, b"client ");
-    let at = put_number(out, at, client as usize, b": ");
-    let at = put_number(out, at, bytes, b" bytes, ");
-    put_number(out, at, blocks, b" blocks, read back ")
+    text.put(b"client ");
+    text.put_number(usize::from(client), b": ");
+    text.put_number(bytes, b" bytes, ");
+    text.put_number(blocks, b" blocks, read back ");
 }
 
 // Are there places for a line with so many bytes in it?
@@ -93,7 +57,8 @@ fn has_room(bytes: usize, places: usize) -> bool
     places >= ROOM && (places - ROOM) / 2 >= bytes
 }
 
-// Writes the line of a packet that was carried and read back, and answers how many bytes it has.
+/// Writes the line of a packet that was carried and read back, and answers how many bytes it has; refused with `OutputTooShort`
+/// where there are fewer than `ROOM` places and two for each byte read back.
 pub fn carried_line(
     client: ClientNumber,
     bytes: usize,
@@ -107,13 +72,16 @@ pub fn carried_line(
     if !has_room(back.len(), out.len()) {
         return Err(Refusal::OutputTooShort);
     }
-    let at = put_counts(out, client.number(), bytes, blocks);
-    let at = put_number(out, at, back.len(), b" bytes ");
-    let at = put_hex(out, at, back);
-    Ok(put(out, at, b"\n"))
+    let mut text = TextOut::new(out);
+    put_counts(&mut text, client.number(), bytes, blocks);
+    text.put_number(back.len(), b" bytes ");
+    put_hex(&mut text, back);
+    text.put(b"\n");
+    Ok(text.finish())
 }
 
-// Writes the line of a refused line, and answers how many bytes it has.
+/// Writes the line of a refused line, and answers how many bytes it has; refused with `OutputTooShort` where there are fewer than
+/// `ROOM` places.
 pub fn refused_line(line: usize, cause: Refusal, out: &mut [u8]) -> Result<usize, Refusal>
     ensures answer { result ≡ print_answer (refused_text line cause) 0 (length out.old) }
     ensures output { out.new ≡ leaves result (refused_text line cause) out.old }
@@ -121,8 +89,10 @@ pub fn refused_line(line: usize, cause: Refusal, out: &mut [u8]) -> Result<usize
     if !has_room(0, out.len()) {
         return Err(Refusal::OutputTooShort);
     }
-    let number = cause.number() as usize;
-    let at = put(out, 0, b"line ");
-    let at = put_number(out, at, line, b": refused ");
-    Ok(put_number(out, at, number, b"\n"))
+    let number = usize::from(cause.number());
+    let mut text = TextOut::new(out);
+    text.put(b"line ");
+    text.put_number(line, b": refused ");
+    text.put_number(number, b"\n");
+    Ok(text.finish())
 }

@@ -1,6 +1,7 @@
 -- A packet as a line: the client's number in decimal, a blank, the bytes in hexadecimal, a newline.
-use Rattle.std.specs.Prelude.{◌≡◌, ℕ, ◌<◌, cond, List, [], ◌∷◌, ◌++◌, length, Some, None, Ok, Err, codes, decimal, Option, Result, ◌==◌, nat_le}
+use Rattle.std.specs.Prelude.{◌≡◌, ℕ, ◌<◌, if◌then◌else◌, List, [], ◌++◌, length, Some, None, Ok, Err, codes, decimal, Option, Result, nat_le}
 use Rattle.std.specs.List.{AllByRecursion}
+use Rattle.form.specs.Cut.{ended}
 use Rattle.form.specs.Form.{after, bind, number}
 use Rattle.refusal.specs.declared.Refusal.{Refusal}
 use Rattle.refusal.specs.declared.Refusal.TheVariants.{FormBroken, OutputTooShort}
@@ -11,33 +12,13 @@ use Rattle.packet_text.specs.Hex.{hex_bytes, hex_text, is_hex}
 abbrev pub line_text : ℕ → List ℕ → List ℕ
 line_text client bytes = decimal client ++ (codes " " ++ (hex_text bytes ++ codes "\n"))
 
--- a cut with one more byte in front
-abbrev pub longer : ℕ → List ℕ × List ℕ → List ℕ × List ℕ
-longer c cut = (c ∷ cut.0, cut.1)
-
--- a text up to its first newline, which is included, and what follows it
-abbrev pub cut_line : List ℕ → List ℕ × List ℕ
-cut_line [] = ([], [])
-cut_line (c ∷ cs) = cond (c == 10) (c ∷ [], cs) (longer c (cut_line cs))
-
--- a text, if there is one, with one more byte in front
-abbrev pub prefixed : ℕ → Option (List ℕ) → Option (List ℕ)
-prefixed x None = None
-prefixed x (Some xs) = Some (x ∷ xs)
-
--- the text in front of the newline that ends it, if one does
-abbrev pub ended : List ℕ → Option (List ℕ)
-ended [] = None
-ended (x ∷ []) = cond (x == 10) (Some []) None
-ended (x ∷ y ∷ zs) = prefixed x (ended (y ∷ zs))
-
 -- a line's client, of at most three digits, and the hexadecimal digits of its bytes
 abbrev pub line_parts : List ℕ → Option (ℕ × List ℕ)
 line_parts xs =
     bind (number xs) λ client.
     bind (after (codes " ") client.1) λ rest.
     bind (ended rest) λ digits.
-    cond (is_hex digits) (Some (client.0, digits)) None
+    if is_hex digits then Some (client.0, digits) else None
 
 -- a line's client and bytes
 abbrev pub line_form : List ℕ → Option (ℕ × List ℕ)
@@ -48,11 +29,15 @@ abbrev pub line_bytes : Option (ℕ × List ℕ) → List ℕ
 line_bytes None = []
 line_bytes (Some line) = line.1
 
+-- how many bytes go to an output of so many places
+abbrev pub length_answer : List ℕ → ℕ → Result ℕ Refusal
+length_answer bytes places = if nat_le (length bytes) places then Ok (length bytes) else Err OutputTooShort
+
 -- the reader's answer for an output of so many places
 abbrev pub read_answer : Option (ℕ × List ℕ) → ℕ → Result PacketLine Refusal
 read_answer None places = Err FormBroken
 read_answer (Some line) places =
-    cond (nat_le (length line.1) places) (Ok (record { client = line.0; length = length line.1 })) (Err OutputTooShort)
+    if nat_le (length line.1) places then Ok (record { client = line.0; length = length line.1 }) else Err OutputTooShort
 
 -- Each client below 1,000 and its bytes, written out as a line, are read as just these.
 abbrev pub LinesRead : Type 0

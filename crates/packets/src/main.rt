@@ -1,9 +1,11 @@
-// The program `packets`: carries the packets of its input lines through a tape that all clients share, and prints each as it comes out.
-// First every packet is put into the tape, pair by pair; then, line by line again, it is taken out and read back.
-// Main promise: none of its own; `packet_text`, `transfer` and `packet_report` read, carry and print, and `main` reads and writes bytes.
+//! The program `packets`: carries the packets of its input lines through a tape that all clients share, and prints each as it comes out.
+//! First every packet is put into the tape, pair by pair; then, line by line again, it is taken out and read back.
+//! Main promise: none of its own; `packet_text`, `transfer` and `packet_report` read, carry and print, and `main` reads and writes bytes.
 #![tactic(auto)]
 
-ghost use Rattle.std.specs.Prelude.{◌≤◌, length, IfOk};
+ghost use Rattle.std.specs.Prelude.{◌≡◌, ◌≤◌, Some, IfErr, IfOk, length, take};
+ghost use Rattle.packet_text.specs.Lines.{line_form};
+ghost use Rattle.packets.specs.Carried.{LineCarried, LineRefused, LineStored};
 
 use block::Block;
 use numbers::ClientNumber;
@@ -38,108 +40,111 @@ enum Failure {
 }
 
 impl From<io::Error> for Failure {
+    ghost use Rattle.std.specs.Prelude.{◌≡◌};
+    ghost use Rattle.packets.specs.declared.Failure.TheVariants.{Io};
+
+    ghost from_gives = { λ error failure. failure ≡ Io error };
+
     fn from(error: io::Error) -> Failure {
         Failure::Io(error)
     }
 }
 
 impl From<AllocError> for Failure {
+    ghost use Rattle.std.specs.Prelude.{◌≡◌};
+    ghost use Rattle.packets.specs.declared.Failure.TheVariants.{Memory};
+
+    ghost from_gives = { λ _ failure. failure ≡ Memory };
+
     fn from(_error: AllocError) -> Failure {
         Failure::Memory
     }
 }
 
 impl<T: Drop> From<AllocFailed<T>> for Failure {
+    ghost use Rattle.std.specs.Prelude.{◌≡◌};
+    ghost use Rattle.packets.specs.declared.Failure.TheVariants.{Memory};
+
+    ghost from_gives = { λ _ failure. failure ≡ Memory };
+
     fn from(_error: AllocFailed<T>) -> Failure {
         Failure::Memory
     }
 }
 
-// Reads into `buf` until the input ends or `buf` is full, and answers how many bytes were read.
-fn fill<R: Read>(input: &mut R, buf: &mut [u8]) -> io::Result<usize>
-    ensures { IfOk result (λ n. n ≤ length buf.old) }
+// A line of the input, and how many blocks of its packet are in the store, or why it is refused.
+#[derive(Clone, Copy)]
+struct Stored<'a> {
+    line: &'a [u8],
+    blocks: Result<usize, Refusal>,
+}
+
+// Reads the packet of a line into the bytes; answers its client and its length.
+fn read_packet(line: &[u8], bytes: &mut [u8; BYTES]) -> Result<(ClientNumber, usize), Refusal>
+    ensures read { IfOk result (λ p. line_form line.now ≡ Some (p.0, take p.1 bytes.new)) }
+    ensures within { IfOk result (λ p. p.1 ≤ length bytes.new) }
+    ensures refused { IfErr result (LineRefused (line_form line.now)) }
 {
-    let mut n = 0;
-    while n < buf.len() {
-        let got = input.read(&mut buf[n..])?;
-        if got == 0 {
-            break;
-        }
-        n += got;
-    }
-    Ok(n)
+    let read = packet_text::read_line(line, bytes)?;
+    let client = ClientNumber::try_from(read.client)?;
+    Ok((client, read.length))
 }
 
 // Puts the packet of a line into the store, and answers how many blocks it has.
-fn store_line<O: Outlet>(line: &[u8], outlet: &mut O) -> Result<usize, Refusal> {
+fn store_line<O: Outlet>(line: &[u8], outlet: &mut O) -> Result<usize, Refusal>
+    ensures { LineStored (line_form line.now) result (O.holding outlet.old) (O.holding outlet.new) }
+{
     let mut bytes = [0; BYTES];
-    let read = packet_text::read_line(line, &mut bytes)?;
-    let client = ClientNumber::try_from(read.client)?;
-    let packet = bytes.get(0..read.length).ok_or(Refusal::OutputTooShort)?;
-    transfer::put_packet(outlet, client, packet)
+    let (client, length) = read_packet(line, &mut bytes)?;
+    transfer::put_packet(outlet, client, &bytes[0..length])
 }
 
 // Takes the packet of a line out of the store again, and writes what is printed of it.
-fn carry_line<I: Inlet>(
-    line: &[u8],
-    stored: Result<usize, Refusal>,
-    inlet: &mut I,
-    out: &mut [u8],
-) -> Result<usize, Refusal> {
-    let count = stored?;
-    let mut bytes = [0; BYTES];
-    let read = packet_text::read_line(line, &mut bytes)?;
-    let client = ClientNumber::try_from(read.client)?;
+fn carry_line<I: Inlet>(stored: Stored<'_>, inlet: &mut I, out: &mut [u8]) -> Result<usize, Refusal>
+    ensures { LineCarried (line_form stored.entry.line.now) stored.entry.blocks (I.waiting inlet.old) (I.waiting inlet.new) result out.old out.new }
+{
+    let count = stored.blocks?;
+    let (client, length) = read_packet(stored.line, &mut [0; BYTES])?;
     let mut blocks = [Block::idle(); BLOCKS];
     let places = count.min(BLOCKS - 1);
     let mut back = [0; 2000];
-    let (length, _) = transfer::take_packet(
+    let (read, _) = transfer::take_packet(
         inlet,
         client,
         &mut blocks[0..places + places % 2],
         &mut back,
     )?;
-    let packet = back.get(0..length).ok_or(Refusal::OutputTooShort)?;
-    packet_report::carried_line(client, read.length, count, packet, out)
+    packet_report::carried_line(client, length, count, &back[0..read], out)
 }
 
-// Puts the packets of all lines into the store, and answers for each line how many blocks it has, or why it is refused.
-fn store_all<O: Outlet>(
-    text: &[u8],
+// Puts the packets of all lines into the store.
+fn store_all<'a, O: Outlet>(
+    text: &'a [u8],
     outlet: &mut O,
-    heap: Global,
-) -> Result<Vec<Result<usize, Refusal>>, Failure> {
-    let mut stored = Vec::new(heap);
-    let mut rest = text;
-    while !rest.is_empty() {
-        let (line, behind) = packet_text::cut_line(rest);
-        stored.push(store_line(line, outlet))?;
-        rest = behind;
+    alloc: Global,
+) -> Result<Vec<Stored<'a>>, Failure> {
+    let mut stored = Vec::new(alloc);
+    for line in text.split_inclusive(|byte| *byte == b'\n') {
+        let blocks = store_line(line, outlet);
+        stored.push(Stored { line, blocks })?;
     }
     Ok(stored)
 }
 
 fn main(rt: HostRuntime) -> Result<(), Failure> {
-    let mut input = [0u8; INPUT];
-    let n = fill(&mut rt.stdin(), &mut input)?;
-    if n == INPUT {
+    let mut input = Vec::new(rt.alloc());
+    rt.stdin().take(INPUT as u64).read_to_end(&mut input)?;
+    if input.len() == INPUT {
         return Err(Failure::InputTooLong);
     }
     let mut places = [TaggedBlock::UNUSED; PLACES];
     let mut tape = Tape::new(&mut places);
-    let stored = store_all(&input[0..n], &mut tape, rt.alloc())?;
-    let mut rest = &input[0..n];
-    for i in 0..stored.len() {
-        let (line, behind) = packet_text::cut_line(rest);
-        rest = behind;
+    let stored = store_all(&input, &mut tape, rt.alloc())?;
+    for (index, line) in stored.iter().enumerate() {
         let mut text = [0; LINE];
-        let printed = match carry_line(line, stored[i], &mut tape, &mut text) {
-            Ok(length) => Ok(length),
-            Err(cause) => packet_report::refused_line(i + 1, cause, &mut text),
-        };
-        let Ok(length) = printed else {
-            return Err(Failure::LineTooLong);
-        };
+        let length = carry_line(*line, &mut tape, &mut text)
+            .or_else(|cause| packet_report::refused_line(index + 1, cause, &mut text))
+            .or(Err(Failure::LineTooLong))?;
         let text = text.get(0..length).ok_or(Failure::LineTooLong)?;
         rt.stdout().write_all(text)?;
     }

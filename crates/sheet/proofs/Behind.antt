@@ -2,10 +2,9 @@
 use Rattle.std.proofs.Common.{◌≡◌, ℕ, zero, suc, ◌≤◌, true, false, List, [], ◌∷◌, length, Some, None, Option, refl, ap, ◌∙◌, arith}
 use Rattle.std.proofs.lemmas.Bool.{cond-true, cond-false}
 use Rattle.form.specs.Lease.{Group}
-use Rattle.form.specs.Form.{bind, form, group, groups, closes, opening, put_before}
+use Rattle.form.specs.Form.{bind, group, groups, closes, put_before}
 use Rattle.form.proofs.Texts.{group_shorter, groups_none, groups_step}
-use Rattle.form.proofs.Numbers.{bind_some}
-use Rattle.sheet.specs.Verdict.{Claim, claimed, claims, claims_of, leased, named, start, weighed}
+use Rattle.sheet.specs.Verdict.{Claim, claimed, claims}
 
 -- what the groups of a text, at most k, make of the claims so far
 abbrev pub behind : ℕ → ℕ → List ℕ → Claim → Option Claim
@@ -32,13 +31,3 @@ behind_next (suc k) c xs ys g s n e t =
       ap (λ o. bind o (λ gs. Some (claims c gs s))) (groups_step k xs ys g e ∙ cond-false (closes ys) (Some (g ∷ [])) (put_before g (groups k ys)) t)
           ∙ put_behind c g s (groups k ys),
     )
-
--- a line with its opening and its groups read, as a lease
-pub leased_weighed : (n c : ℕ) (es text rest : List ℕ) (s : Claim) → opening text ≡ Some (c, rest) → claims_of c rest es ≡ Some s → leased n es (form text) ≡ weighed n (named c es) s
-leased_weighed n c es text rest s o e =
-    let b = bind_some (groups (length rest) rest) (λ gs. Some (claims c gs (start es))) s e in
-    let f : form text ≡ Some (record { client = c; groups = b.0 }) =
-    ap (λ p. bind p (λ q. bind (groups (length q.1) q.1) (λ gs. Some (record { client = q.0; groups = gs })))) o
-    ∙ ap (λ p. bind p (λ gs. Some (record { client = c; groups = gs }))) b.1 in
-    let same : claims c b.0 (start es) ≡ s = (let t = b.2 in cc) in
-    ap (leased n es) f ∙ ap (weighed n (named c es)) same

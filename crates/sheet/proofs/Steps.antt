@@ -1,9 +1,11 @@
 -- One line of the sheet after another.
-use Rattle.std.proofs.Common.{◌≡◌, ℕ, ◌+◌, ◌<◌, ◌≤◌, true, false, ltb, List, length, replicate, Ok, Err, sym, ap, ◌∙◌}
+use Rattle.std.proofs.Common.{◌≡◌, ℕ, ◌+◌, ◌<◌, ◌≤◌, true, false, ltb, List, length, replicate, Some, None, Option, Bor, Ok, Err, sym, refl, ap, ◌∙◌, arith}
+use Rattle.std.specs.Option.{ok_or, option_copied}
 use Rattle.std.proofs.lemmas.Bool.{cond-true, cond-false, le-ltb}
 use Rattle.refusal.specs.declared.Refusal.TheVariants.{FormBroken, MarkNotAllowed}
 use Rattle.refusal.specs.declared.Level.TheVariants.{Forms, Marks}
 use Rattle.refusal.specs.declared.SheetRefusal.{SheetRefusal}
+use Rattle.form.specs.declared.FormError.{FormError}
 use Rattle.form.specs.Marks.{LineOf, first_line, lines, marked}
 use Rattle.form.proofs.Lines.{lines_from_first}
 use Rattle.sheet.specs.Verdict.{chain, judged, leased, line_form, line_verdict, longest, refused, verdict}
@@ -35,3 +37,12 @@ module _ (n : ℕ) (es xs : List ℕ) (some : 0 < length xs) where
 -- a sheet that is not too long is judged line by line
 pub not_long : (xs : List ℕ) → length xs ≤ longest → verdict xs ≡ judged 1 (replicate 480 0) (lines xs)
 not_long xs h = cond-false (ltb longest (length xs)) (Err (refused FormBroken Forms 1)) (judged 1 (replicate 480 0) (lines xs)) (le-ltb longest (length xs) h)
+
+-- a line that there is, or is not, as `ok_or` answers it
+pub copied_none : (o : Option (Bor (List ℕ))) (e f : FormError) → ok_or o e ≡ Err f → option_copied o ≡ None
+copied_none None e f h = refl
+copied_none (Some x) e f h = absurd (let z : ◌≡◌ {A = ℕ} 0 1 = cc in omega arith)
+
+pub copied_some : (o : Option (Bor (List ℕ))) (e : FormError) (x : Bor (List ℕ)) → ok_or o e ≡ Ok x → option_copied o ≡ Some x.now
+copied_some None e x h = absurd (let z : ◌≡◌ {A = ℕ} 0 1 = cc in omega arith)
+copied_some (Some y) e x h = let same : y ≡ x = cc in ap (λ z. Some z.now) same

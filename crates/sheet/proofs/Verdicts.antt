@@ -9,7 +9,7 @@ use Rattle.form.specs.Lease.{Lease, Writable, lease_text}
 use Rattle.form.specs.Marks.{LineOf, lines, marked, mark_of}
 use Rattle.form.specs.Form as forms
 use Rattle.form.specs.declared.Mark.{Mark}
-use Rattle.form.proofs.Texts.{form_is, form_reads}
+use Rattle.form.proofs.Texts.{form_is, form_reads, some_same}
 use Rattle.form.proofs.Plain.{lines_rejoined, plain_lease, plain_line, plain_marked, rejoined}
 use Rattle.sheet.specs.Verdict.{chain, judged, leased, line_form, line_verdict, longest, refused, verdict}
 use Rattle.sheet.specs.Laws.{Apart, Breaks, EachLawful, Gives, InRange, Lawful, Leases, Refused, Rule, WritesOut, Stands, cause_of, client, form, groups_of, level_of, marks, order, range, sheet_text, slots, written, written_all}
@@ -43,9 +43,6 @@ bad_mark (x ∷ xs) e =
     (cases_Bool (is_some (mark_of x)))
 
 -- forms
-
-some_same : {A : Type 0} {x y : A} → Some x ≡ Some y → x ≡ y
-some_same e = cc
 
 written_same : (l m : Lease) → Writable l → Writable m → written l ≡ written m → l ≡ m
 written_same l m v w e = some_same (sym (form_reads l v) ∙ ap (λ t. forms.form t.text) e ∙ form_reads m w)

@@ -51,10 +51,6 @@ tests_failed true false true n es e h = inr (inr (refl, refl, refl, sym (err_sam
 tests_failed true false false n es e h = absurd (ok_err h)
 tests_failed false k t n es e h = inl (refl, sym (err_same h))
 
-some_short : (gs : List Group) → SomeGroup gs → GroupsInRange gs → (g : Group) × (hs : List Group) × (gs ≡ g ∷ hs)
-some_short [] s r = absurd s
-some_short (g ∷ hs) s r = (g, hs, refl)
-
 pub short_groups : (gs : List Group) → GroupsInRange gs → ShortGroups gs
 short_groups [] r = tt
 short_groups (g ∷ gs) r = (omega arith, omega arith, short_groups gs r.3)

@@ -1,8 +1,6 @@
 -- How the reader's own values stand for groups and claims.
 use Rattle.std.specs.Prelude.{ℕ, List}
 use Rattle.form.specs.declared.Group.{Group}
-use Rattle.form.specs.declared.Line.{Line}
-use Rattle.form.specs.Marks.{LineOf}
 use Rattle.form.specs.Lease as lease
 use Rattle.sheet.specs.declared.Claims.{Claims}
 use Rattle.sheet.specs.Verdict.{Claim}
@@ -14,7 +12,3 @@ group_of g = record { first = g.first; last = g.last }
 -- a draft calendar's entries with the claims of a line's groups
 abbrev pub claim_of : List ℕ → Claims → Claim
 claim_of es k = record { entries = es; lawful = k.lawful; twice = k.twice }
-
--- a line as the mark level reads it
-abbrev pub line_of : Line → LineOf
-line_of l = record { text = l.text.rest.now; ended = l.ended }

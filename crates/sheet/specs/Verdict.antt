@@ -1,5 +1,5 @@
 -- What the reader makes of a sheet: the calendar that it gives, or the cause, level and line of its refusal.
-use Rattle.std.specs.Prelude.{ℕ, ◌+◌, ◌-◌, Bool, true, false, cond, List, [], ◌∷◌, ◌++◌, length, take, drop, replicate, Some, None, Ok, Err, Option, Result, ◌==◌, nat_le, nat_lt}
+use Rattle.std.specs.Prelude.{ℕ, ◌+◌, ◌-◌, Bool, true, false, if◌then◌else◌, List, [], ◌∷◌, ◌++◌, length, take, drop, replicate, Some, None, Ok, Err, Option, Result, ◌==◌, nat_le, nat_lt}
 use Rattle.refusal.specs.declared.Refusal.{Refusal}
 use Rattle.refusal.specs.declared.Refusal.TheVariants.{MarkNotAllowed, FormBroken, OutOfRange, SlotTwice, ClientTwice}
 use Rattle.refusal.specs.declared.Level.{Level}
@@ -13,11 +13,11 @@ use Rattle.form.specs.Form.{bind, form, groups}
 
 -- slot numbers in range, and the last not before the first
 abbrev pub in_order : Group → Bool
-in_order g = cond (in_range g.first) (cond (in_range g.last) (nat_le g.first g.last) false) false
+in_order g = if in_range g.first then (if in_range g.last then nat_le g.first g.last else false) else false
 
 -- a group of client c is in range
 abbrev pub fits : ℕ → Group → Bool
-fits c g = cond (in_range c) (in_order g) false
+fits c g = if in_range c then in_order g else false
 
 -- how many slots a group has
 abbrev pub size : Group → ℕ
@@ -34,7 +34,7 @@ give c g es = gave c (g.first - 1) (size g) es
 -- an entry is not empty
 abbrev pub filled : List ℕ → Bool
 filled [] = false
-filled (e ∷ es) = cond (e == 0) (filled es) true
+filled (e ∷ es) = if e == 0 then filled es else true
 
 -- a slot of the group has a client
 abbrev pub used : Group → List ℕ → Bool
@@ -49,9 +49,8 @@ pub record Claim : Type 0 where
 -- one group more
 abbrev pub claimed : ℕ → Group → Claim → Claim
 claimed c g s =
-    cond (fits c g)
-    (record { entries = give c g s.entries; lawful = s.lawful; twice = cond s.twice true (used g s.entries) })
-    (record { entries = s.entries; lawful = false; twice = s.twice })
+    if fits c g then record { entries = give c g s.entries; lawful = s.lawful; twice = if s.twice then true else used g s.entries }
+    else record { entries = s.entries; lawful = false; twice = s.twice }
 
 abbrev pub claims : ℕ → List Group → Claim → Claim
 claims c [] s = s
@@ -59,7 +58,7 @@ claims c (g ∷ gs) s = claims c gs (claimed c g s)
 
 -- the client has a slot already
 abbrev pub named : ℕ → List ℕ → Bool
-named c es = cond (in_range c) (nat_lt 0 (slot_count c es)) false
+named c es = if in_range c then nat_lt 0 (slot_count c es) else false
 
 abbrev pub refused : Refusal → Level → ℕ → SheetRefusal
 refused cause level line = record { cause = cause; level = level; line = line }
@@ -67,10 +66,11 @@ refused cause level line = record { cause = cause; level = level; line = line }
 -- a lease's claims, weighed: a number out of range first, then the client, then its slots
 abbrev pub weighed : ℕ → Bool → Claim → Result (List ℕ) SheetRefusal
 weighed n known s =
-    cond s.lawful
-    (cond known (Err (refused ClientTwice Calendar n))
-    (cond s.twice (Err (refused SlotTwice Calendar n)) (Ok s.entries)))
-    (Err (refused OutOfRange Calendar n))
+    if s.lawful then
+    (if known then Err (refused ClientTwice Calendar n)
+    else if s.twice then Err (refused SlotTwice Calendar n)
+    else Ok s.entries)
+    else Err (refused OutOfRange Calendar n)
 
 abbrev pub start : List ℕ → Claim
 start es = record { entries = es; lawful = true; twice = false }
@@ -86,11 +86,11 @@ leased n es (Some l) = weighed n (named l.client es) (claims l.client l.groups (
 
 -- the lease that a line writes, which a newline must end
 abbrev pub line_form : LineOf → Option Lease
-line_form l = cond l.ended (form l.text) None
+line_form l = if l.ended then form l.text else None
 
 -- line n behind lines that gave the entries: first its marks, then its form, then its lease
 abbrev pub line_verdict : ℕ → List ℕ → LineOf → Result (List ℕ) SheetRefusal
-line_verdict n es l = cond (marked l.text) (leased n es (line_form l)) (Err (refused MarkNotAllowed Marks n))
+line_verdict n es l = if marked l.text then leased n es (line_form l) else Err (refused MarkNotAllowed Marks n)
 
 abbrev pub chain : Result (List ℕ) SheetRefusal → (List ℕ → Result (List ℕ) SheetRefusal) → Result (List ℕ) SheetRefusal
 chain (Ok es) f = f es
@@ -107,4 +107,4 @@ longest = 16384
 
 -- the whole sheet
 abbrev pub verdict : List ℕ → Result (List ℕ) SheetRefusal
-verdict sheet = cond (nat_lt longest (length sheet)) (Err (refused FormBroken Forms 1)) (judged 1 (replicate 480 0) (lines sheet))
+verdict sheet = if nat_lt longest (length sheet) then Err (refused FormBroken Forms 1) else judged 1 (replicate 480 0) (lines sheet)

@@ -1,21 +1,24 @@
-// The highest level of the sheet reader: a sheet's leases, line by line, as a calendar.
-// A sheet has one lease a line; the first line that breaks a rule refuses the sheet, and the calendar is as it was.
-// Main promise: `read` accepts just the sheets that write out lawful leases, and gives each slot to its lease's client.
+//! The highest level of the sheet reader: a sheet's leases, line by line, as a calendar.
+//! A sheet has one lease a line; the first line that breaks a rule refuses the sheet, and the calendar is as it was.
+//! Main promise: `read` accepts just the sheets that write out lawful leases, and gives each slot to its lease's client.
 #![tactic(auto)]
 
-ghost use Rattle.std.specs.Prelude.{◌≡◌, ℕ, ◌+◌, ◌-◌, ◌<◌, ◌≤◌, true, false, cond, List, length, is_ok, Some, None, Ok, Err, MatchResult};
+ghost use Rattle.std.specs.Prelude.{◌≡◌, ℕ, ◌+◌, ◌-◌, ◌<◌, ◌≤◌, true, false, List, length, is_ok, Some, None, Ok, Err, IfErr, IfOk, MatchResult, OnErr, OnOk};
 ghost use Rattle.calendar.specs.Entries.{entries_of};
-ghost use Rattle.sheet.specs.Groups.{claim_of, group_of, line_of};
+ghost use Rattle.sheet.specs.Groups.{claim_of, group_of};
+ghost use Rattle.form.specs.Form.{form};
 ghost use Rattle.form.specs.Lease.{Lease};
+ghost use Rattle.form.specs.Marks.{lines};
+ghost use Rattle.form.specs.Reads.{Reads};
 ghost use Rattle.sheet.specs.Laws.{Gives, Lawful, Refused, WritesOut, sheet_text};
-ghost use Rattle.sheet.specs.Verdict.{claimed, claims_of, fits, give, leased, line_form, named, refused, used, verdict, weighed};
+ghost use Rattle.sheet.specs.Verdict.{claimed, claims_of, fits, give, judged, leased, named, refused, used, verdict, weighed};
 
 use calendar::Calendar;
-use form::{Group, Line, Text};
+use form::{Fault, FormError, Group, closes, first_line, read_client, read_group};
 use numbers::{ClientNumber, SlotNumber};
 use refusal::{Level, Refusal, SheetRefusal};
 
-// Bytes of the longest sheet.
+/// Bytes of the longest sheet.
 pub const LONGEST: usize = 16384;
 
 // Gives the slots from first to last to a client; whether one of them had a client.
@@ -24,6 +27,7 @@ fn give(draft: &mut Calendar, client: ClientNumber, first: SlotNumber, last: Slo
     ensures again { result ≡ used (record { first = first; last = last }) (entries_of draft.old) }
 {
     let mut again = false;
+    // by number, since `numbers` has no run of slots
     for number in first.number()..last.number() + 1 {
         if let Ok(slot) = SlotNumber::try_from(number) {
             if draft.client(slot).is_some() {
@@ -37,7 +41,11 @@ fn give(draft: &mut Calendar, client: ClientNumber, first: SlotNumber, last: Slo
 
 // Gives a group's slots to a client; whether one of them had a client.
 fn grant(draft: &mut Calendar, client: u16, group: Group) -> Result<bool, Refusal>
-    ensures { MatchResult result (λ again. (fits client (group_of group) ≡ true) × (again ≡ used (group_of group) (entries_of draft.old)) × (entries_of draft.new ≡ give client (group_of group) (entries_of draft.old))) (λ e. (fits client (group_of group) ≡ false) × (e ≡ Refusal.OutOfRange) × (draft.new ≡ draft.old)) }
+    ensures fits { is_ok result ≡ fits client (group_of group) }
+    ensures again { IfOk result (λ again. again ≡ used (group_of group) (entries_of draft.old)) }
+    ensures given { OnOk result (entries_of draft.new ≡ give client (group_of group) (entries_of draft.old)) }
+    ensures cause { IfErr result (λ cause. cause ≡ Refusal.OutOfRange) }
+    ensures kept { OnErr result (draft.new ≡ draft.old) }
 {
     let client = ClientNumber::try_from(client)?;
     let first = SlotNumber::try_from(group.first)?;
@@ -48,7 +56,8 @@ fn grant(draft: &mut Calendar, client: u16, group: Group) -> Result<bool, Refusa
     Ok(give(draft, client, first, last))
 }
 
-// What a line's groups so far come to: all are in range, and a slot was given twice.
+// What a line's groups so far come to: all are in range, and a slot was given twice. Both are kept, and neither as an error, since
+// what stands behind a group may be the graver fault.
 #[derive(Clone, Copy)]
 struct Claims {
     lawful: bool,
@@ -72,21 +81,21 @@ fn claim(draft: &mut Calendar, so_far: Claims, client: u16, group: Group) -> Cla
 }
 
 // The groups of a line, up to its closing bracket.
-fn claim_all(draft: &mut Calendar, client: u16, text: Text<'_>) -> Result<Claims, SheetRefusal>
-    ensures { MatchResult result (λ k. claims_of client text.entry.rest.now (entries_of draft.old) ≡ Some (claim_of (entries_of draft.new) k)) (λ e. (claims_of client text.entry.rest.now (entries_of draft.old) ≡ None) × (e ≡ refused Refusal.FormBroken Level.Forms text.entry.line)) }
+fn claim_all(draft: &mut Calendar, client: u16, text: &[u8]) -> Result<Claims, FormError>
+    ensures { Reads (claim_of (entries_of draft.new)) result (claims_of client text.now (entries_of draft.old)) }
 {
-    let mut text = text;
+    let mut rest = text;
     let mut claims = Claims {
         lawful: true,
         twice: false,
     };
     loop {
-        let (group, rest) = text.group()?;
+        let (group, behind) = read_group(rest)?;
         claims = claim(draft, claims, client, group);
-        if rest.closes() {
+        if closes(behind) {
             return Ok(claims);
         }
-        text = rest;
+        rest = behind;
     }
 }
 
@@ -94,15 +103,13 @@ fn claim_all(draft: &mut Calendar, client: u16, text: Text<'_>) -> Result<Claims
 fn is_named(draft: &Calendar, client: u16) -> bool
     ensures { result ≡ named client (entries_of draft.now) }
 {
-    match ClientNumber::try_from(client) {
-        Ok(client) => draft.share(client).0 > 0,
-        Err(_) => false,
-    }
+    ClientNumber::try_from(client).is_ok_and(|client| draft.share(client).0 > 0)
 }
 
 // What a line's claims come to: a number out of range first, then the client, then its slots.
-fn weigh(line: usize, known: bool, claims: Claims) -> Result<(), SheetRefusal>
-    ensures { (es : List ℕ) → MatchResult result (λ _. weighed line known (claim_of es claims) ≡ Ok es) (λ e. weighed line known (claim_of es claims) ≡ Err e) }
+fn weigh(known: bool, claims: Claims) -> Result<(), Fault>
+    ensures lawful { OnOk result ((n : ℕ) (es : List ℕ) → weighed n known (claim_of es claims) ≡ Ok es) }
+    ensures fault { IfErr result (λ fault. (n : ℕ) (es : List ℕ) → weighed n known (claim_of es claims) ≡ Err (refused fault.cause fault.level n)) }
 {
     let cause = if !claims.lawful {
         Refusal::OutOfRange
@@ -113,21 +120,33 @@ fn weigh(line: usize, known: bool, claims: Claims) -> Result<(), SheetRefusal>
     } else {
         return Ok(());
     };
-    Err(SheetRefusal {
+    Err(Fault {
         cause,
         level: Level::Calendar,
-        line,
     })
 }
 
-// Reads a line as a lease, and gives the lease's slots to its client.
-fn lease(draft: &mut Calendar, line: Line<'_>) -> Result<(), SheetRefusal>
-    ensures { MatchResult result (λ _. leased line.entry.text.line (entries_of draft.old) (line_form (line_of line.entry)) ≡ Ok (entries_of draft.new)) (λ e. leased line.entry.text.line (entries_of draft.old) (line_form (line_of line.entry)) ≡ Err e) }
+// Reads a line without its newline as a lease, and gives the lease's slots to its client.
+fn lease(draft: &mut Calendar, line: &[u8]) -> Result<(), Fault>
+    ensures read { OnOk result ((n : ℕ) → leased n (entries_of draft.old) (form line.now) ≡ Ok (entries_of draft.new)) }
+    ensures fault { IfErr result (λ fault. (n : ℕ) → leased n (entries_of draft.old) (form line.now) ≡ Err (refused fault.cause fault.level n)) }
 {
-    let (client, text) = line.whole()?.client()?;
+    let (client, text) = read_client(line)?;
     let known = is_named(draft, client);
     let claims = claim_all(draft, client, text)?;
-    weigh(line.text.line, known, claims)
+    weigh(known, claims)
+}
+
+// Reads the first line of what is left of a sheet, and answers what follows it.
+fn read_line<'a>(draft: &mut Calendar, sheet: &'a [u8]) -> Result<&'a [u8], Fault>
+    requires { 0 < length sheet.now }
+    ensures read { IfOk result (λ rest. (n : ℕ) → judged n (entries_of draft.old) (lines sheet.now) ≡ judged (n + 1) (entries_of draft.new) (lines rest.now)) }
+    ensures fault { IfErr result (λ fault. (n : ℕ) → judged n (entries_of draft.old) (lines sheet.now) ≡ Err (refused fault.cause fault.level n)) }
+    ensures shorter { IfOk result (λ rest. length rest.now < length sheet.now) }
+{
+    let (line, rest) = first_line(sheet)?;
+    lease(draft, line.ok_or(FormError)?)?;
+    Ok(rest)
 }
 
 // Reads a sheet line by line into a draft, which replaces the calendar at the end.
@@ -135,26 +154,24 @@ fn read_lines(sheet: &[u8], calendar: &mut Calendar) -> Result<(), SheetRefusal>
     ensures { MatchResult result (λ _. verdict sheet.now ≡ Ok (entries_of calendar.new)) (λ e. (verdict sheet.now ≡ Err e) × (calendar.new ≡ calendar.old)) }
 {
     if sheet.len() > LONGEST {
-        return Err(SheetRefusal {
-            cause: Refusal::FormBroken,
-            level: Level::Forms,
-            line: 1,
-        });
+        return Err(Fault::from(FormError).at(1));
     }
     let mut draft = Calendar::empty();
     let mut rest = sheet;
     let mut number = 1;
     while !rest.is_empty() {
-        let (line, after) = form::first_line(rest, number)?;
-        lease(&mut draft, line)?;
-        rest = after;
+        // not by `map_err`, since what its closure answers was left open in the proof
+        match read_line(&mut draft, rest) {
+            Ok(behind) => rest = behind,
+            Err(fault) => return Err(fault.at(number)),
+        }
         number += 1;
     }
     *calendar = draft;
     Ok(())
 }
 
-// Reads a sheet into a calendar, in place of all that it held; a refused sheet leaves it as it was.
+/// Reads a sheet into a calendar, in place of all that it held; a refused sheet leaves it as it was.
 pub fn read(sheet: &[u8], calendar: &mut Calendar) -> Result<(), SheetRefusal>
     ensures equals { MatchResult result (λ _. verdict sheet.now ≡ Ok (entries_of calendar.new)) (λ e. (verdict sheet.now ≡ Err e) × (calendar.new ≡ calendar.old)) }
     ensures only { MatchResult result (λ _. WritesOut sheet.now (entries_of calendar.new)) (λ e. Refused sheet.now e) }

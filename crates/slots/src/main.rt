@@ -1,9 +1,7 @@
-// The program `slots`: reads a lease sheet from standard input, and prints each client's slot count and first slot.
-// A refused sheet prints only its refusal line, and the program then ends with status 1.
-// Main promise: none of its own; `sheet::read` judges the sheet, `listing` makes the text, and `main` reads and writes bytes.
+//! The program `slots`: reads a lease sheet from standard input, and prints each client's slot count and first slot.
+//! A refused sheet prints only its refusal line, and the program then ends with status 1.
+//! Main promise: none of its own; `sheet::read` judges the sheet, `listing` makes the text, and `main` reads and writes bytes.
 #![tactic(auto)]
-
-ghost use Rattle.std.specs.Prelude.{◌≤◌, length, IfOk};
 
 use calendar::Calendar;
 use listing::{LISTING_LEN, REFUSAL_LEN};
@@ -12,28 +10,13 @@ use std::io::{Read, Write};
 use std::process::ExitCode;
 
 // One byte more than the longest sheet, so that a longer one is seen to be too long.
-const ROOM: usize = sheet::LONGEST + 1;
-
-// Reads into `buf` until the input ends or `buf` is full, and answers how many bytes were read.
-fn fill<R: Read>(input: &mut R, buf: &mut [u8]) -> io::Result<usize>
-    ensures { IfOk result (λ n. n ≤ length buf.old) }
-{
-    let mut n = 0;
-    while n < buf.len() {
-        let got = input.read(&mut buf[n..])?;
-        if got == 0 {
-            break;
-        }
-        n += got;
-    }
-    Ok(n)
-}
+const ROOM: u64 = sheet::LONGEST as u64 + 1;
 
 fn main(rt: HostRuntime) -> io::Result<ExitCode> {
-    let mut bytes = [0u8; ROOM];
-    let n = fill(&mut rt.stdin(), &mut bytes)?;
+    let mut bytes = Vec::new(rt.alloc());
+    rt.stdin().take(ROOM).read_to_end(&mut bytes)?;
     let mut calendar = Calendar::empty();
-    match sheet::read(&bytes[0..n], &mut calendar) {
+    match sheet::read(&bytes, &mut calendar) {
         Ok(()) => {
             let mut text = [0u8; LISTING_LEN];
             let len = listing::listing(&calendar, &mut text);

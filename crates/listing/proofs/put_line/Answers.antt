@@ -1,26 +1,9 @@
-use Rattle.std.proofs.Common.{codes, decimal, arith}
-use Rattle.std.proofs.lemmas.List.{length-append}
-use Rattle.listing.proofs.Laid.{wrote_parts}
-use Rattle.listing.proofs.Lengths.{length_line}
+use Rattle.std.proofs.Common.{codes, decimal}
+use Rattle.text_out.proofs.Laid.{puts_parts}
 use Rattle.listing.proofs.put_line.Goals as goal
 
-pub put_number-at-requires : goal.put_number-at-requires
-put_number-at-requires c = omega (arith, length_line c.args.client c.args.count c.args.first)
-
-pub put_number-at-requires-2 : goal.put_number-at-requires-2
-put_number-at-requires-2 c =
-    let one = length-append (decimal c.args.client) (codes " ") in
-    omega (arith, length_line c.args.client c.args.count c.args.first)
-
-pub put_number-requires : goal.put_number-requires
-put_number-requires c =
-    let one = length-append (decimal c.args.client) (codes " ") in
-    let two = length-append (decimal c.args.count) (codes " ") in
-    omega (arith, length_line c.args.client c.args.count c.args.first)
-
-pub returns : goal.returns
-returns c =
-    let one = length-append (decimal c.args.client) (codes " ") in
-    let long = length_line c.args.client c.args.count c.args.first in
-    wrote_parts (decimal c.args.client) (codes " ") (omega arith) c.put_number-at.ensures
-    (wrote_parts (decimal c.args.count) (codes " ") (omega arith) c.put_number-at-2.ensures c.put_number.ensures)
+pub returns-clause-puts : goal.returns-clause-puts
+returns-clause-puts c =
+    puts_parts (decimal c.args.client) (codes " ") (rw c.from.ensures at c.put_number.ensures.puts)
+    (puts_parts (decimal c.args.count) (codes " ") (rw c.from-2.ensures at c.put_number-2.ensures.puts)
+    (rw c.from-3.ensures at c.put_number-3.ensures.puts))

@@ -1,28 +1,18 @@
-use Rattle.std.proofs.Common.{codes, decimal, arith}
-use Rattle.std.proofs.lemmas.Fmt.{length-decimal-le}
-use Rattle.std.proofs.lemmas.List.{length-append}
-use Rattle.listing.proofs.Laid.{wrote_more, wrote_parts}
+use Rattle.std.proofs.Common.{◌≤◌, length, codes, decimal, arith, rules}
+use Rattle.refusal.specs.Numbers.{number_of}
+use Rattle.text_out.specs.Wrote.{Puts}
+use Rattle.text_out.proofs.Laid.{puts_more, puts_parts, puts_whole, wrote_as}
+use Rattle.listing.specs.Lines.{refused_line}
+use Rattle.listing.proofs.Lengths.{short_refusal}
 use Rattle.listing.proofs.refusal_line.Goals as goal
 
-pub put_number-at-requires : goal.put_number-at-requires
-put_number-at-requires c = omega (arith, length-decimal-le 3 c.number-number.result (omega arith) (omega arith) (omega arith))
-
-pub put_number-requires : goal.put_number-requires
-put_number-requires c =
-    let front = length-append (decimal c.number-number.result) (codes " line ") in
-    let cause = length-decimal-le 3 c.number-number.result (omega arith) (omega arith) (omega arith) in
-    omega (arith, length-decimal-le 20 c.args.line (omega arith) (omega arith) (omega arith))
-
-pub returns : goal.returns
-returns c =
-    let front = length-append (decimal c.number-number.result) (codes " line ") in
-    let back = length-append (decimal c.args.line) (codes "\n") in
-    let cause = length-decimal-le 3 c.number-number.result (omega arith) (omega arith) (omega arith) in
-    let line = length-decimal-le 20 c.args.line (omega arith) (omega arith) (omega arith) in
-    record {
-      wrote =
-          rw (← c.number-number.ensures)
-          (wrote_more (omega arith) c.put-at.ensures
-          (wrote_parts (decimal c.number-number.result) (codes " line ") (omega arith) c.put_number-at.ensures c.put_number.ensures));
-      fits = omega arith;
-    }
+pub returns-clause-wrote : goal.returns-clause-wrote
+returns-clause-wrote c =
+    let text = refused_line c.args.cause c.args.line in
+    let fits : length text ≤ 38 = short_refusal c.args.cause c.args.line (omega arith) (omega arith) in
+    let puts : Puts 0 text c.args.out.now c.put_number-2.new.self.places.now c.put_number-2.new.self.len =
+    rw (← c.new-text.ensures.places, ← c.new-text.ensures.empty)
+    (puts_more c.put.ensures.puts
+    (puts_parts (decimal (number_of c.args.cause)) (codes " line ") (rw (c.from-number.ensures, c.number.ensures) at c.put_number.ensures.puts)
+    c.put_number-2.ensures.puts)) in
+    wrote_as (puts_whole (omega arith) puts) (search rules) c.finish.ensures.value

@@ -7,9 +7,8 @@ use Rattle.sheet.proofs.claim_all.Given as goal
 
 abbrev pub invariant-loop-group : goal.invariant-loop-group
 invariant-loop-group l =
-    (l.text.line ≡ l.initial.text.line)
-    × ((k : ℕ) × (length l.text.rest.now ≤ k)
-    × (claims_of l.client l.initial.text.rest.now (entries_of l.initial.draft) ≡ behind k l.client l.text.rest.now (claim_of (entries_of l.draft) l.claims)))
+    (k : ℕ) × (length l.rest ≤ k)
+    × (claims_of l.client l.text (entries_of l.initial.draft) ≡ behind k l.client l.rest (claim_of (entries_of l.draft) l.claims))
 
 abbrev pub decreases-loop-group : goal.decreases-loop-group
-decreases-loop-group l = length l.text.rest.now
+decreases-loop-group l = length l.rest

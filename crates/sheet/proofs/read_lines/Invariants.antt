@@ -5,9 +5,10 @@ use Rattle.sheet.specs.Verdict.{judged}
 use Rattle.sheet.proofs.read_lines.Given as goal
 
 abbrev pub invariant-loop-rest : goal.invariant-loop-rest
-invariant-loop-rest l =
-    (judged 1 (replicate 480 0) (lines l.sheet) ≡ judged l.number (entries_of l.draft) (lines l.rest))
-    × (l.number + length l.rest ≤ length l.sheet + 1)
+invariant-loop-rest l = record {
+  judged : judged 1 (replicate 480 0) (lines l.sheet) ≡ judged l.number (entries_of l.draft) (lines l.rest);
+  short : l.number + length l.rest ≤ length l.sheet + 1;
+}
 
 abbrev pub decreases-loop-rest : goal.decreases-loop-rest
 decreases-loop-rest l = length l.rest

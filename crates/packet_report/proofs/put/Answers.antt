@@ -1,6 +1,0 @@
-use Rattle.std.proofs.Common.{refl, rules}
-use Rattle.std.proofs.lemmas.Slice.{overwrites}
-use Rattle.packet_report.proofs.put.Goals as goal
-
-pub returns : goal.returns
-returns c = record { bytes = search (rules, overwrites); end_is = refl }

@@ -1,0 +1,15 @@
+-- A text written into a buffer from a place on.
+use Rattle.std.specs.Prelude.{◌≡◌, ℕ, ◌+◌, ◌-◌, List, ◌++◌, length, take, drop}
+
+-- a buffer with a text from place `at` on; its other bytes are as before
+abbrev pub laid : ℕ → List ℕ → List ℕ → List ℕ
+laid at text buffer = take at buffer ++ (text ++ drop (at + length text) buffer)
+
+-- a text was written from place `at` on: what the buffer holds after, and the place after the text
+pub record Wrote (at : ℕ) (text before after : List ℕ) (end : ℕ) : Type 0 where
+  pub bytes : after ≡ laid at text before
+  pub end_is : end ≡ at + length text
+
+-- as much of a text as fits was written from place `at` on
+pub record Puts (at : ℕ) (text before after : List ℕ) (end : ℕ) : Type 0 where
+  pub wrote : Wrote at (take (length before - at) text) before after end
