@@ -1,6 +1,6 @@
-// Worked examples for the queue, the tape and the bank, as tests; the expected values are worked by hand.
-// Each shows one edge: a full store, no places, a removal in the middle, a ring that goes round, areas that do not fit.
-// Main promise: none; the tests hold.
+//! Worked examples for the queue, the tape and the bank, as tests; the expected values are worked by hand.
+//! Each shows one edge: a full store, no places, a removal in the middle, a ring that goes round, areas that do not fit.
+//! Main promise: none; the tests hold.
 #![tactic(auto)]
 
 #[cfg(test)]
@@ -40,51 +40,37 @@ mod tests {
     // One call to a store, with the answer that it must give.
     #[derive(Clone, Copy)]
     enum Step {
-        // client, blocks, whether the pair is accepted
-        Put(u16, u8, u8, bool),
+        // client and blocks
+        Put(u16, u8, u8, Result<(), Refusal>),
         // client and the block that is removed
-        Next(u16, u8),
+        Next(u16, Option<u8>),
         // client and the block that stays first
-        First(u16, u8),
-        // a client that has no block
-        None(u16),
+        First(u16, Option<u8>),
         // client and free places
         Free(u16, usize),
     }
 
+    const FULL: Result<(), Refusal> = Err(Refusal::NoFreePlace);
+
     fn try_step<S: Store>(rt: &impl Abort, store: &mut S, step: Step) -> Result<(), Fail> {
         match step {
-            Step::Put(client, a, b, true) => {
-                assert_eq!(rt;
-                    store.put(ClientNumber::try_from(client)?, data(a), data(b)),
-                    Ok(())
-                );
-                Ok(())
+            Step::Put(client, a, b, answer) => {
+                let client = ClientNumber::try_from(client)?;
+                assert_eq!(rt; store.put(client, data(a), data(b)), answer);
             }
-            Step::Put(client, a, b, false) => {
-                assert_eq!(rt;
-                    store.put(ClientNumber::try_from(client)?, data(a), data(b)),
-                    Err(Refusal::NoFreePlace)
-                );
-                Ok(())
-            },
             Step::Next(client, a) => {
-                assert_eq!(rt; store.next(ClientNumber::try_from(client)?), Some(data(a)));
-                Ok(())
+                let client = ClientNumber::try_from(client)?;
+                assert_eq!(rt; store.next(client), a.map(data));
             }
             Step::First(client, a) => {
-                assert_eq!(rt; store.first(ClientNumber::try_from(client)?), Some(data(a)));
-                Ok(())
+                let client = ClientNumber::try_from(client)?;
+                assert_eq!(rt; store.first(client), a.map(data));
             }
-            Step::None(client) => {
-                assert_eq!(rt; store.next(ClientNumber::try_from(client)?), None);
-                Ok(())
-            },
             Step::Free(client, n) => {
                 assert_eq!(rt; store.free(ClientNumber::try_from(client)?), n);
-                Ok(())
-            },
+            }
         }
+        Ok(())
     }
 
     fn try_steps<S: Store>(rt: &impl Abort, store: &mut S, steps: &[Step]) -> Result<(), Fail> {
@@ -96,58 +82,66 @@ mod tests {
 
     const ON_TAPE_OF_5: [Step; 18] = [
         Step::Free(480, 5),
-        Step::Put(1, 11, 12, true),
-        Step::Put(2, 21, 22, true),
+        Step::Put(1, 11, 12, Ok(())),
+        Step::Put(2, 21, 22, Ok(())),
         Step::Free(3, 1),
-        Step::Put(3, 31, 32, false),
-        Step::None(3),
-        Step::First(2, 21),
-        Step::Next(2, 21),
+        Step::Put(3, 31, 32, FULL),
+        Step::Next(3, None),
+        Step::First(2, Some(21)),
+        Step::Next(2, Some(21)),
         Step::Free(1, 2),
-        Step::Put(1, 13, 14, true),
+        Step::Put(1, 13, 14, Ok(())),
         Step::Free(1, 0),
-        Step::Next(1, 11),
-        Step::Next(1, 12),
-        Step::Next(2, 22),
-        Step::None(2),
-        Step::Next(1, 13),
-        Step::Next(1, 14),
+        Step::Next(1, Some(11)),
+        Step::Next(1, Some(12)),
+        Step::Next(2, Some(22)),
+        Step::Next(2, None),
+        Step::Next(1, Some(13)),
+        Step::Next(1, Some(14)),
         Step::Free(2, 5),
     ];
 
     // Two areas of three places, and one block more.
     const ON_BANK_OF_7_BY_3: [Step; 17] = [
-        Step::Put(1, 11, 12, true),
-        Step::Put(2, 21, 22, true),
-        Step::Put(3, 31, 32, false),
-        Step::None(3),
-        Step::Put(1, 13, 14, false),
-        Step::First(1, 11),
-        Step::Next(1, 11),
+        Step::Put(1, 11, 12, Ok(())),
+        Step::Put(2, 21, 22, Ok(())),
+        Step::Put(3, 31, 32, FULL),
+        Step::Next(3, None),
+        Step::Put(1, 13, 14, FULL),
+        Step::First(1, Some(11)),
+        Step::Next(1, Some(11)),
         Step::Free(1, 2),
         Step::Free(2, 1),
-        Step::Put(1, 13, 14, true),
-        Step::Next(1, 12),
-        Step::Next(1, 13),
-        Step::Next(1, 14),
-        Step::None(1),
-        Step::Next(2, 21),
-        Step::Next(2, 22),
+        Step::Put(1, 13, 14, Ok(())),
+        Step::Next(1, Some(12)),
+        Step::Next(1, Some(13)),
+        Step::Next(1, Some(14)),
+        Step::Next(1, None),
+        Step::Next(2, Some(21)),
+        Step::Next(2, Some(22)),
         Step::Free(2, 3),
     ];
 
     const ON_BANK_BY_2: [Step; 6] = [
-        Step::Put(1, 1, 2, true),
-        Step::Put(1, 3, 4, false),
-        Step::Next(1, 1),
-        Step::Next(1, 2),
-        Step::Put(1, 3, 4, true),
-        Step::Next(1, 3),
+        Step::Put(1, 1, 2, Ok(())),
+        Step::Put(1, 3, 4, FULL),
+        Step::Next(1, Some(1)),
+        Step::Next(1, Some(2)),
+        Step::Put(1, 3, 4, Ok(())),
+        Step::Next(1, Some(3)),
     ];
 
-    const WITH_ONE_PLACE: [Step; 3] = [Step::Put(1, 1, 2, false), Step::None(1), Step::Free(1, 1)];
+    const WITH_ONE_PLACE: [Step; 3] = [
+        Step::Put(1, 1, 2, FULL),
+        Step::Next(1, None),
+        Step::Free(1, 1),
+    ];
 
-    const WITHOUT_PLACES: [Step; 3] = [Step::Put(1, 1, 2, false), Step::None(1), Step::Free(1, 0)];
+    const WITHOUT_PLACES: [Step; 3] = [
+        Step::Put(1, 1, 2, FULL),
+        Step::Next(1, None),
+        Step::Free(1, 0),
+    ];
 
     #[test]
     fn tapes(rt: HostRuntime) -> Result<(), Fail> {
@@ -218,68 +212,52 @@ mod tests {
     // A call to a queue of three places, with the answer that it must give.
     #[derive(Clone, Copy)]
     enum Call {
-        Add(u16, u8, bool),
-        // key, value of the entry that is removed
-        Remove(u16, u8),
-        RemoveFirst(u8),
-        // a key that no entry has
-        NoneWith(u16),
+        Add(u16, u8, Result<(), Refusal>),
+        // key, value of the entry that is read and removed
+        Remove(u16, Option<u8>),
+        RemoveFirst(Option<u8>),
         // index and value of an entry, and the number of free places
-        Get(usize, u8, usize),
+        Get(usize, Option<u8>, usize),
     }
 
     fn value(entry: Option<Entry>) -> Option<u8> {
-        match entry {
-            Some(e) => Some(e.value),
-            None => None,
-        }
+        entry.map(|e| e.value)
     }
 
     fn try_call(rt: &impl Abort, queue: &mut Queue<'_, Entry>, call: Call) -> Result<(), Fail> {
         match call {
-            Call::Add(key, value, true) => {
-                assert_eq!(rt; queue.add(Entry { key, value }), Ok(()));
-                Ok(())
-            },
-            Call::Add(key, value, false) => {
-                assert_eq!(rt; queue.add(Entry { key, value }), Err(Refusal::NoFreePlace));
-                Ok(())
+            Call::Add(key, value, answer) => {
+                assert_eq!(rt; queue.add(Entry { key, value }), answer);
             }
             Call::Remove(key, v) => {
-                assert_eq!(rt; value(queue.first_with(key)), Some(v));
-                assert_eq!(rt; value(queue.remove_first_with(key)), Some(v));
-                Ok(())
+                assert_eq!(rt; value(queue.first_with(key)), v);
+                assert_eq!(rt; value(queue.remove_first_with(key)), v);
             }
             Call::RemoveFirst(v) => {
-                assert_eq!(rt; value(queue.remove_first()), Some(v));
-                Ok(())
-            },
-            Call::NoneWith(key) => {
-                assert_eq!(rt; value(queue.remove_first_with(key)), None);
-                Ok(())
-            },
+                assert_eq!(rt; value(queue.remove_first()), v);
+            }
             Call::Get(index, v, free) => {
-                assert_eq!(rt; value(queue.get(index)), Some(v));
+                assert_eq!(rt; value(queue.get(index)), v);
                 assert_eq!(rt; (queue.len(), queue.free()), (3 - free.min(3), free));
-                Ok(())
             }
         }
+        Ok(())
     }
 
     const CALLS: [Call; 13] = [
-        Call::NoneWith(8),
-        Call::Add(7, 1, true),
-        Call::Add(8, 2, true),
-        Call::Get(1, 2, 1),
-        Call::Add(7, 3, true),
-        Call::Add(9, 4, false),
-        Call::Get(2, 3, 0),
-        Call::Remove(8, 2),
-        Call::NoneWith(8),
-        Call::Add(8, 5, true),
-        Call::Remove(7, 1),
-        Call::RemoveFirst(3),
-        Call::Get(0, 5, 2),
+        Call::Remove(8, None),
+        Call::Add(7, 1, Ok(())),
+        Call::Add(8, 2, Ok(())),
+        Call::Get(1, Some(2), 1),
+        Call::Add(7, 3, Ok(())),
+        Call::Add(9, 4, FULL),
+        Call::Get(2, Some(3), 0),
+        Call::Remove(8, Some(2)),
+        Call::Remove(8, None),
+        Call::Add(8, 5, Ok(())),
+        Call::Remove(7, Some(1)),
+        Call::RemoveFirst(Some(3)),
+        Call::Get(0, Some(5), 2),
     ];
 
     #[test]

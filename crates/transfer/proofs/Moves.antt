@@ -1,5 +1,5 @@
 -- A move of pairs and a taking of blocks, step by step.
-use Rattle.std.proofs.Common.{◌≡◌, ℕ, ◌+◌, ◌*◌, ◌<◌, List, [], ◌∷◌, ◌++◌, length, drop, set, Some, None, Option, unwrap_or, sym, refl, ap, ◌∙◌, arith}
+use Rattle.std.proofs.Common.{◌≡◌, ℕ, ◌+◌, ◌*◌, ◌<◌, List, [], ◌∷◌, ◌++◌, length, drop, set, Option, unwrap_or, sym, refl, ap, ◌∙◌, arith}
 use Rattle.std.proofs.lemmas.List.{append_assoc, append-nil, drop_all}
 use Rattle.block.specs.declared.Block.{Block}
 use Rattle.port.specs.Model.{Accepted, Holding, Lists, first_of, rest_of, taken, updated}
@@ -67,17 +67,13 @@ pub taking_none : (f : Block) (c : ℕ) (w : Lists) (before : List Block) → Ta
 unfolding padded
 taking_none f c w before = record { blocks = refl; left = sym (updated_same w c) }
 
-value_or : (f : Block) (o : Option Block) → unwrap_or o f ≡ or_filler f o
-value_or f None = refl
-value_or f (Some b) = refl
-
 -- one block more
 pub taking_more :
     (f : Block) (c n : ℕ) (w v u : Lists) (before out : List Block) (o : Option Block) (x : Block) → n < length before → Taking f c n w v before out →
     o ≡ first_of (v c) → x ≡ unwrap_or o f → u ≡ taken c v → Taking f c (n + 1) w u before (set out n x)
 taking_more f c n w v u before out o x low one first is left =
     let here : v c ≡ drop n (w c) = here_is c n w v one.left in
-    let next : x ≡ or_filler f (first_of (drop n (w c))) = is ∙ value_or f o ∙ ap (or_filler f) first ∙ ap (λ d. or_filler f (first_of d)) here in
+    let next : x ≡ or_filler f (first_of (drop n (w c))) = is ∙ ap (or_filler f) first ∙ ap (λ d. or_filler f (first_of d)) here in
     record {
       blocks =
           front_more (padded f n (w c)) before out n x one.blocks (length_padded f n (w c)) low

@@ -1,6 +1,6 @@
-// Packets moved into a store and out of it: pair by pair from an inlet to an outlet, and back to bytes.
-// A move is whole or refused; a packet of an odd number of blocks has an idle behind it, since places are used in pairs.
-// Main promise: what a store gains for a client is exactly the packet's blocks, and taken out again they give the packet back.
+//! Packets moved into a store and out of it: pair by pair from an inlet to an outlet, and back to bytes.
+//! A move is whole or refused; a packet of an odd number of blocks has an idle behind it, since places are used in pairs.
+//! Main promise: what a store gains for a client is exactly the packet's blocks, and taken out again they give the packet back.
 #![tactic(auto)]
 
 ghost use Rattle.std.specs.Prelude.{◌≡◌, true, [], ◌∷◌, length};
@@ -18,7 +18,8 @@ use packet_inlet::PacketInlet;
 use port::{Inlet, Outlet};
 use refusal::Refusal;
 
-// Moves so many pairs of the client's blocks from the inlet to the outlet, or none where their places are not free.
+/// Moves so many pairs of the client's blocks from the inlet to the outlet, or none, with `NoFreePlace`, where their places
+/// are not free.
 pub fn move_pairs<I: Inlet, O: Outlet>(
     inlet: &mut I,
     outlet: &mut O,
@@ -32,21 +33,19 @@ pub fn move_pairs<I: Inlet, O: Outlet>(
     if outlet.free(client) / 2 < pairs {
         return Err(Refusal::NoFreePlace);
     }
-    let mut moved = 0;
-    while moved < pairs {
+    for _ in 0..pairs {
         port::move_pair(inlet, outlet, client, filler)?;
-        moved += 1;
     }
     Ok(())
 }
 
-// Takes blocks of the client out of the inlet until the output is full, with the filler for those that are missing.
+/// Takes blocks of the client out of the inlet until the output is full, with the filler for those that are missing.
 pub fn take_blocks<I: Inlet>(inlet: &mut I, client: ClientNumber, filler: Block, out: &mut [Block])
     ensures blocks { out.new ≡ padded filler (length out.old) (I.waiting inlet.old client) }
     ensures left { I.waiting inlet.new ≡ without (length out.old) client (I.waiting inlet.old) }
 {
-    for i in 0..out.len() {
-        out[i] = inlet.next(client).unwrap_or(filler);
+    for place in out.iter_mut() {
+        *place = inlet.next(client).unwrap_or(filler);
     }
 }
 
@@ -67,7 +66,8 @@ fn put_only<'a, O: Outlet>(
     Ok(blocks)
 }
 
-// Puts a packet's blocks into the outlet for the client, with an idle behind an odd number; answers how many the packet has.
+/// Puts a packet's blocks into the outlet for the client, with an idle behind an odd number; answers how many the packet has.
+/// Refused with `PacketLength`, or with `NoFreePlace` where the places for all its blocks are not free; nothing is put then.
 pub fn put_packet<O: Outlet>(
     outlet: &mut O,
     client: ClientNumber,
@@ -82,8 +82,8 @@ pub fn put_packet<O: Outlet>(
     put_only(outlet, client, &lengths, packet)
 }
 
-// Takes blocks of the client out of the inlet, as many as there are places for them, and reads the packet at their front.
-// Answers its length and the blocks from its start to its end.
+/// Takes blocks of the client out of the inlet, as many as there are places for them, and reads the packet at their front.
+/// Answers its length and the blocks from its start to its end.
 pub fn take_packet<I: Inlet>(
     inlet: &mut I,
     client: ClientNumber,

@@ -2,5 +2,5 @@ use Rattle.transfer.proofs.Moves.{Taking}
 use Rattle.transfer.proofs.take_blocks.Given as goal
 
 -- so many blocks are taken
-abbrev pub invariant-loop-i : goal.invariant-loop-i
-invariant-loop-i g l = Taking l.filler l.client l.i (g.I.Inlet.waiting l.initial.inlet) (g.I.Inlet.waiting l.inlet) l.initial.out l.out
+abbrev pub invariant-loop-place : goal.invariant-loop-place
+invariant-loop-place g l = Taking l.filler l.client l.place-index (g.I.Inlet.waiting l.initial.inlet) (g.I.Inlet.waiting l.inlet) l.initial.out l.out
