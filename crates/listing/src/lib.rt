@@ -7,7 +7,7 @@ ghost use Rattle.std.specs.Prelude.{◌≡◌, ◌≤◌};
 ghost use Rattle.calendar.specs.Entries.{entries_of};
 ghost use Rattle.listing.specs.Lines.{PlainDecimals, client_line, line_of, listing_of, refused_line};
 ghost use Rattle.listing.specs.Sample.{Samples};
-ghost use Rattle.text_out.specs.Wrote.{Puts, Wrote};
+ghost use Rattle.text_out.specs.Wrote.{Writes, Wrote};
 
 use calendar::Calendar;
 use numbers::ClientNumber;
@@ -22,8 +22,7 @@ pub const REFUSAL_LEN: usize = 8 + 3 + 6 + 20 + 1;
 
 // Writes a line of the listing.
 fn put_line(text: &mut TextOut<'_>, client: u16, count: u16, first: u16)
-    ensures same { text.new.places.ghost_name ≡ text.old.places.ghost_name }
-    ensures puts { Puts text.old.len (line_of client count first) text.old.places.now text.new.places.now text.new.len }
+    ensures { Writes text.old text.new (line_of client count first) }
 {
     text.put_number(usize::from(client), b" ");
     text.put_number(usize::from(count), b" ");
@@ -32,8 +31,7 @@ fn put_line(text: &mut TextOut<'_>, client: u16, count: u16, first: u16)
 
 // Writes a client's line, if it has slots.
 fn put_client(text: &mut TextOut<'_>, calendar: &Calendar, client: ClientNumber)
-    ensures same { text.new.places.ghost_name ≡ text.old.places.ghost_name }
-    ensures puts { Puts text.old.len (client_line (entries_of calendar.now) client) text.old.places.now text.new.places.now text.new.len }
+    ensures { Writes text.old text.new (client_line (entries_of calendar.now) client) }
 {
     let (count, first) = calendar.share(client);
     if count != 0 {

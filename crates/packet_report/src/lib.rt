@@ -7,7 +7,7 @@ ghost use Rattle.std.specs.Prelude.{◌≡◌, ◌<◌, [], ◌∷◌, length, n
 ghost use Rattle.packet.specs.Answers.{leaves};
 ghost use Rattle.packet_text.specs.Hex.{hex_byte, hex_digit, hex_text};
 ghost use Rattle.packet_report.specs.Texts.{carried_text, counts_text, print_answer, refused_text, room_for};
-ghost use Rattle.text_out.specs.Wrote.{Puts};
+ghost use Rattle.text_out.specs.Wrote.{Writes};
 
 use numbers::ClientNumber;
 use refusal::Refusal;
@@ -31,8 +31,7 @@ fn hex_digit(value: u8) -> u8
 // Writes bytes in hexadecimal. The kit's `hex::encode_to_slice` refuses an output that is longer than the digits, so each byte is
 // written by itself.
 fn put_hex(text: &mut TextOut<'_>, bytes: &[u8])
-    ensures same { text.new.places.ghost_name ≡ text.old.places.ghost_name }
-    ensures puts { Puts text.old.len (hex_text bytes.now) text.old.places.now text.new.places.now text.new.len }
+    ensures { Writes text.old text.new (hex_text bytes.now) }
 {
     for byte in bytes {
         text.put(&[hex_digit(*byte / 16), hex_digit(*byte % 16)]);
@@ -41,8 +40,7 @@ fn put_hex(text: &mut TextOut<'_>, bytes: &[u8])
 
 // Writes a packet's client, bytes and blocks.
 fn put_counts(text: &mut TextOut<'_>, client: u16, bytes: usize, blocks: usize)
-    ensures same { text.new.places.ghost_name ≡ text.old.places.ghost_name }
-    ensures puts { Puts text.old.len (counts_text client bytes blocks) text.old.places.now text.new.places.now text.new.len }
+    ensures { Writes text.old text.new (counts_text client bytes blocks) }
 {
     text.put(b"client ");
     text.put_number(usize::from(client), b": ");

@@ -1,5 +1,6 @@
 -- A text written into a buffer from a place on.
 use Rattle.std.specs.Prelude.{◌≡◌, ℕ, ◌+◌, ◌-◌, List, ◌++◌, length, take, drop}
+use Rattle.text_out.specs.declared.TextOut.{TextOut}
 
 -- a buffer with a text from place `at` on; its other bytes are as before
 abbrev pub laid : ℕ → List ℕ → List ℕ → List ℕ
@@ -13,3 +14,8 @@ pub record Wrote (at : ℕ) (text before after : List ℕ) (end : ℕ) : Type 0 
 -- as much of a text as fits was written from place `at` on
 pub record Puts (at : ℕ) (text before after : List ℕ) (end : ℕ) : Type 0 where
   pub wrote : Wrote at (take (length before - at) text) before after end
+
+-- a text was written behind what was there, as much of it as fits, in the same memory
+pub record Writes (old new : TextOut) (text : List ℕ) : Type 0 where
+  pub same : new.places.ghost_name ≡ old.places.ghost_name
+  pub puts : Puts old.len text old.places.now new.places.now new.len

@@ -3,7 +3,7 @@
 #![tactic(auto)]
 
 ghost use Rattle.std.specs.Prelude.{◌≡◌, ◌++◌, decimal};
-ghost use Rattle.text_out.specs.Wrote.{Puts};
+ghost use Rattle.text_out.specs.Wrote.{Writes};
 
 /// The text so far, as the first `len` bytes of the places. Clauses name the fields, since through them the lender learns what its
 /// memory holds afterwards.
@@ -25,8 +25,7 @@ impl<'a> TextOut<'a> {
 
     /// Writes a text, as far as there are places.
     pub fn put(&mut self, text: &[u8])
-        ensures same { self.new.places.ghost_name ≡ self.old.places.ghost_name }
-        ensures puts { Puts self.old.len text.now self.old.places.now self.new.places.now self.new.len }
+        ensures { Writes self.old self.new text.now }
     {
         if self.places.len() < self.len {
             return;
@@ -39,8 +38,7 @@ impl<'a> TextOut<'a> {
 
     // Writes a number in decimal likewise.
     fn put_decimal(&mut self, number: usize)
-        ensures same { self.new.places.ghost_name ≡ self.old.places.ghost_name }
-        ensures puts { Puts self.old.len (decimal number) self.old.places.now self.new.places.now self.new.len }
+        ensures { Writes self.old self.new (decimal number) }
     {
         let mut digits = itoa::Buffer::new();
         self.put(digits.format(number).as_bytes());
@@ -48,8 +46,7 @@ impl<'a> TextOut<'a> {
 
     /// Writes a number in decimal and the text after it likewise.
     pub fn put_number(&mut self, number: usize, after: &[u8])
-        ensures same { self.new.places.ghost_name ≡ self.old.places.ghost_name }
-        ensures puts { Puts self.old.len (decimal number ++ after.now) self.old.places.now self.new.places.now self.new.len }
+        ensures { Writes self.old self.new (decimal number ++ after.now) }
     {
         self.put_decimal(number);
         self.put(after);

@@ -1,11 +1,15 @@
-use Rattle.std.proofs.Common.{codes, decimal}
+use Rattle.std.proofs.Common.{codes, decimal, ◌∙◌}
 use Rattle.text_out.proofs.Laid.{puts_more, puts_parts}
 use Rattle.packet_report.specs.Texts.{counts_text}
 use Rattle.packet_report.proofs.put_counts.Goals as goal
 
-pub returns-clause-puts : goal.returns-clause-puts
+pub returns : goal.returns
 unfolding counts_text
-returns-clause-puts c =
-    puts_more c.put.ensures.puts
-    (puts_parts (decimal c.args.client) (codes ": ") (rw c.from.ensures at c.put_number.ensures.puts)
-    (puts_parts (decimal c.args.bytes) (codes " bytes, ") c.put_number-2.ensures.puts c.put_number-3.ensures.puts))
+returns c =
+    record {
+      same = c.put_number-3.ensures.same ∙ (c.put_number-2.ensures.same ∙ (c.put_number.ensures.same ∙ c.put.ensures.same));
+      puts =
+          puts_more c.put.ensures.puts
+          (puts_parts (decimal c.args.client) (codes ": ") (rw c.from.ensures at c.put_number.ensures.puts)
+          (puts_parts (decimal c.args.bytes) (codes " bytes, ") c.put_number-2.ensures.puts c.put_number-3.ensures.puts));
+    }
