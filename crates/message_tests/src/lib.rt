@@ -42,7 +42,11 @@ mod tests {
     }
 
     // A block after the other, with what is reported of each.
-    fn run(rt: &impl Abort, collector: &mut Collector, table: &[(Block, bool, Result<Option<Kind>, Fault>)]) {
+    fn run(
+        rt: &impl Abort,
+        collector: &mut Collector,
+        table: &[(Block, bool, Result<Option<Kind>, Fault>)],
+    ) {
         for (block, broken, found) in table {
             assert_eq!(rt;
                 feed(collector, *block),
