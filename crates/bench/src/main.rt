@@ -60,6 +60,7 @@ fn pack_rounds(pairs: &mut [Pair; 480], payload: &mut Payload) -> u64
 {
     pack(pairs, payload);
     let mut moved = 960;
+    // a count of rounds, here and in `unpack_rounds`: nothing is walked
     for round in 1..ROUNDS {
         pairs[round % 480].first.bytes[0] ^= payload[round % 7920];
         pack(pairs, payload);

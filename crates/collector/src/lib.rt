@@ -87,6 +87,7 @@ impl Report {
 }
 
 impl Fault {
+    // Not `From<Fault> for u8`, since a caller would not say which number it takes.
     /// The number by which an operator knows the fault.
     pub fn number(self) -> u8
         ensures { result ≡ fault_number self }

@@ -5,6 +5,7 @@ ghost use Rattle.frame.specs.Places.{IsPlace, checked_place, next_place};
 use refusal::Refusal;
 use std::marker::Model;
 
+// Of the shape of the types in `numbers`, and like them not to be taken for another number.
 #[derive(Clone, Copy)]
 pub struct FramePlace {
     number: u16,

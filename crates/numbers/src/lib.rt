@@ -10,7 +10,7 @@ ghost use Rattle.numbers.specs.Range.{IsOneTo480, checked, checked_frame};
 use refusal::Refusal;
 use std::marker::Model;
 
-// Two structs with one shape, since neither may stand for the other; a number generic over a marker would read no plainer.
+// Structs of one shape, since none may stand for another; one type over a range would read no plainer, as `Number<1, 480, Client>`.
 /// A client's number, 1 to 480.
 #[derive(Clone, Copy, Debug, PartialEq, Eq)]
 pub struct ClientNumber {

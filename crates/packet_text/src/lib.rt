@@ -13,7 +13,7 @@ pub use form::cut_line;
 use form::{FormError, line_text, number, word};
 use refusal::Refusal;
 
-/// What a line says: the client's number, and how many bytes its packet has.
+/// What a line says: the client's number as it is written, which may be no client's, and how many bytes its packet has.
 #[derive(Clone, Copy)]
 pub struct PacketLine {
     pub client: u16,

@@ -20,6 +20,8 @@ use slot_place::{Place, Start};
 /// The bytes of a frame that the slots share.
 pub type Payload = [u8; 7920];
 
+// That its blocks are whole, which their types say, is a clause of what reads or writes a pair and no ghost field: that would be owed
+// wherever a byte of a block is written.
 /// What a slot holds; the first block is sent first, and of each block the sync bits before the bytes.
 #[derive(Clone, Copy, Debug, PartialEq, Eq)]
 pub struct Pair {

@@ -27,7 +27,7 @@ fn give(draft: &mut Calendar, client: ClientNumber, first: SlotNumber, last: Slo
     ensures again { result ≡ used (record { first = first; last = last }) (entries_of draft.old) }
 {
     let mut again = false;
-    // by number, since `numbers` has no run of slots
+    // by number: a run of slots would be an iterator of its own, with a model and its laws, for this one loop
     for number in first.number()..last.number() + 1 {
         if let Ok(slot) = SlotNumber::try_from(number) {
             if draft.client(slot).is_some() {
@@ -39,7 +39,8 @@ fn give(draft: &mut Calendar, client: ClientNumber, first: SlotNumber, last: Slo
     again
 }
 
-// Gives a group's slots to a client; whether one of them had a client.
+// Gives a group's slots to a client; whether one of them had a client. The client is a number as the line writes it, here and up to
+// `lease`: that it is none is the graver fault only once the whole form is read.
 fn grant(draft: &mut Calendar, client: u16, group: Group) -> Result<bool, Refusal>
     ensures fits { is_ok result ≡ fits client (group_of group) }
     ensures again { IfOk result (λ again. again ≡ used (group_of group) (entries_of draft.old)) }

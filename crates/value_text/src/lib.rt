@@ -36,7 +36,7 @@ fn write_hex<W: fmt::Write>(f: &mut fmt::Formatter<W>, bytes: &[u8]) -> fmt::Res
     Ok(())
 }
 
-// `ok` or `differs`.
+// `ok` or `differs`, a word of the line alone, and so no type with a `Display`.
 fn verdict(expected: &str, computed: &str) -> &'static str
     ensures { result.now ≡ verdict_of expected.now computed.now }
 {
@@ -68,7 +68,7 @@ pub fn hex_reads_back()
     ensures { HexReadsBack }
 {}
 
-// The sync bits in the order of sending.
+// The sync bits in the order of sending. Not a `Display` of `Sync`: it is how the lines here name them, and no other text need.
 fn sync_text(sync: Sync) -> &'static str
     ensures { result.now ≡ sync_text sync }
 {

@@ -55,7 +55,7 @@ fn numbers_text(alloc: Global, overhead: Overhead) -> Result<String, AllocError>
     format!(in alloc; "client number {client}, frame number {frame}")
 }
 
-// Why an overhead is not read.
+// Why an overhead is not read, in the words of this program; a `Display` of the fault would fix them for every user of `overhead`.
 fn fault_text(fault: OverheadFault) -> &'static str
     ensures { result.now ≡ read_overhead (Err fault) }
 {
