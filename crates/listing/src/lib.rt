@@ -21,10 +21,10 @@ pub const LISTING_LEN: usize = 480 * 12;
 pub const REFUSAL_LEN: usize = 8 + 3 + 6 + 20 + 1;
 
 // Writes a line of the listing.
-fn put_line(text: &mut TextOut<'_>, client: u16, count: u16, first: u16)
+fn put_line(text: &mut TextOut<'_>, client: ClientNumber, count: u16, first: u16)
     ensures { Writes text.old text.new (line_of client count first) }
 {
-    text.put_number(usize::from(client), b" ");
+    text.put_number(usize::from(client.number()), b" ");
     text.put_number(usize::from(count), b" ");
     text.put_number(usize::from(first), b"\n");
 }
@@ -35,7 +35,7 @@ fn put_client(text: &mut TextOut<'_>, calendar: &Calendar, client: ClientNumber)
 {
     let (count, first) = calendar.share(client);
     if count != 0 {
-        put_line(text, client.number(), count, first);
+        put_line(text, client, count, first);
     }
 }
 

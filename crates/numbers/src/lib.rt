@@ -122,10 +122,7 @@ impl ClientNumber {
         ensures value { result ≡ entry_of client }
         ensures range { is_entry client ≡ true }
     {
-        match client {
-            Some(client) => client.number(),
-            None => 0,
-        }
+        client.map_or(0, ClientNumber::number)
     }
 
     /// The client that such a number names, if any; a number above 480 is refused with `OutOfRange`.

@@ -38,7 +38,7 @@ fn put_hex(text: &mut TextOut<'_>, bytes: &[u8])
     }
 }
 
-// Writes a packet's client, bytes and blocks.
+// Writes a packet's client, bytes and blocks. The client as a number: that it has three digits at most is known where the number was asked for.
 fn put_counts(text: &mut TextOut<'_>, client: u16, bytes: usize, blocks: usize)
     ensures { Writes text.old text.new (counts_text client bytes blocks) }
 {
