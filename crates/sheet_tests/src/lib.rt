@@ -1,6 +1,6 @@
-// Examples of the sheet reader, as tables of sheets and what they come to, worked out by hand.
-// Accepted sheets with the slots and shares that they give; refused ones by cause, level and line.
-// Main promise: none; each test is proved to be safe and to end, and then run.
+//! Examples of the sheet reader, as tables of sheets and what they come to, worked out by hand.
+//! Accepted sheets with the slots and shares that they give; refused ones by cause, level and line.
+//! Main promise: none; each test is proved to be safe and to end, and then run.
 #![tactic(auto)]
 
 #[cfg(test)]
@@ -40,10 +40,7 @@ mod tests {
     ) -> Result<(), Fail> {
         for entry in entries {
             let slot = SlotNumber::try_from(entry.0)?;
-            let client = match calendar.client(slot) {
-                Some(client) => client.number(),
-                None => 0,
-            };
+            let client = ClientNumber::entry(calendar.client(slot));
             assert_eq!(rt; client, entry.1, "slot {}", entry.0);
         }
         Ok(())
