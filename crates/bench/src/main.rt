@@ -53,7 +53,8 @@ fn fill(pairs: &mut [Pair; 480])
 }
 
 // Packs again and again, and answers the number of blocks moved.
-// This and `unpack_rounds` are two: one function over a closure would say nothing of the buffers that the closure holds.
+// This and `unpack_rounds` are two, since they differ in the byte changed and in the buffer made: one over a closure has only the count
+// in common.
 fn pack_rounds(pairs: &mut [Pair; 480], payload: &mut Payload) -> u64
     ensures moved { result ≡ 9600000 }
     ensures packed { payload.new ≡ payload_of pairs.new }

@@ -28,7 +28,9 @@ pub enum Sync {
 /// A block as it is sent: its sync bits, then its bytes, byte 0 first.
 #[derive(Clone, Copy, Debug, Eq)]
 pub struct Block {
+    /// The two bits before the bytes.
     pub sync: Sync,
+    /// Byte 0 is a control block's type.
     pub bytes: [u8; 8],
 }
 
@@ -61,6 +63,7 @@ pub enum Class {
 }
 
 impl Sync {
+    // Not `From<Sync> for u8`, since a caller would not say which end of the number comes first.
     /// The sync bits as a number, the first bit sent the lowest.
     pub fn bits(self) -> u8
         ensures number { result ≡ sync_number self }
@@ -130,21 +133,21 @@ impl Block {
         }
     }
 
-    /// Has the block a class?
+    /// Is its class another than `Unlawful`?
     pub fn lawful(&self) -> bool
         ensures { result ≡ is_lawful (class_of self.now) }
     {
         !matches!(self.class(), Class::Unlawful)
     }
 
-    /// Is its type that of a start?
+    /// Is it a start?
     pub fn is_start(&self) -> bool
         ensures { result ≡ is_start (class_of self.now) }
     {
         matches!(self.class(), Class::Start)
     }
 
-    /// Is its type that of an end?
+    /// Is it an end?
     pub fn is_end(&self) -> bool
         ensures { result ≡ is_end (class_of self.now) }
     {

@@ -49,6 +49,7 @@ impl Calendar {
         self.entries[i] = Some(client);
     }
 
+    // A pair, and 0 for none: count and first slot are told together, in the form in which they are printed.
     /// A client's slot count and its first, the lowest, slot; 0 and 0 if it has none.
     pub fn share(&self, client: ClientNumber) -> (u16, u16)
         ensures count { result.0 ≡ slot_count client (entries_of self.now) }

@@ -11,7 +11,9 @@ ghost use Rattle.crc.specs.Remainder.{remainder as rest, step};
 /// A generator by its terms: the digit of weight 2^k is the coefficient of x^k, and the highest is that of x^degree.
 #[derive(Clone, Copy, Debug, PartialEq, Eq)]
 pub struct Generator {
+    /// Bits of a remainder.
     pub degree: u32,
+    /// Bit k is the coefficient of x^k.
     pub terms: u16,
     ghost fits: { degree < 16 },
     ghost highest: { terms / 2 ^ degree ≡ 1 },
@@ -19,7 +21,7 @@ pub struct Generator {
 
 impl Generator {
     // Two functions, not one over constants: the order of x, which `detects` rests on, is computed for each generator.
-    /// x^7 + x^5 + x^4 + x^2 + x + 1: the CRC-7 of the frame overhead (ITU-T G.8312).
+    /// x^7 + x^5 + x^4 + x^2 + x + 1: the CRC-7 of the frame overhead; the generator is that of ITU-T G.8312.
     pub fn degree_seven() -> Generator
         ensures degree { result.degree ≡ 7 }
         ensures terms { result.terms ≡ 0xB7 }

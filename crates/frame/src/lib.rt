@@ -8,6 +8,7 @@ ghost use Rattle.frame.specs.Frames.{FrameRestored, Shaped, carried_by, frame_bl
 ghost use Rattle.frame.specs.SlotStarts.{SlotStarts, SlotsBeginThere, slot_start};
 ghost use Rattle.payload.specs.Bits.{splice};
 
+/// Places of blocks in a frame.
 pub mod place;
 
 use block::{Block, Sync};
@@ -24,7 +25,8 @@ pub type OverheadBytes = [u8; 7];
 pub fn block_at(overhead: &OverheadBytes, payload: &Payload, place: FramePlace) -> Block
     ensures { result ≡ frame_block (overhead.now ++ payload.now) place }
 {
-    // Here and in `store_block` the number says by itself which block it is: an enum of the four kinds would say it a second time.
+    // By the number, here and in `store_block`: an enum of the four kinds would need a definition and a law that say which number is
+    // which, and its matches would have the same four arms.
     match place.number() {
         1 => Block::start(),
         2 => first_data(overhead, payload),
@@ -36,8 +38,11 @@ pub fn block_at(overhead: &OverheadBytes, payload: &Payload, place: FramePlace) 
 /// Where in a frame a slot begins: the number of the data block, from 1, the byte in it and the bit in that, both from 0.
 #[derive(Clone, Copy, Debug, PartialEq, Eq)]
 pub struct SlotStart {
+    /// Of the data blocks, 1 to 990.
     pub block: u16,
+    /// Of the block's bytes, 0 to 7.
     pub byte: u8,
+    /// Of the byte's bits, 0 or 4.
     pub bit: u8,
 }
 

@@ -1,12 +1,13 @@
 //! The place of a block in its frame, from 1, the start block, to 992, the end block. In contracts it is its number.
-ghost use Rattle.std.specs.Prelude.{◌≡◌, ◌+◌, ◌<◌, ◌≤◌};
+ghost use Rattle.std.specs.Prelude.{◌≡◌, ◌+◌, ◌<◌, ◌≤◌, IfSome};
 ghost use Rattle.frame.specs.Places.{IsPlace, checked_place, next_place};
 
 use refusal::Refusal;
 use std::marker::Model;
 
-// Of the shape of the types in `numbers`, and like them not to be taken for another number.
-#[derive(Clone, Copy)]
+// Of the shape of the types in `numbers`, for the reason given there.
+/// A block's place in its frame, 1 to 992.
+#[derive(Clone, Copy, Debug, PartialEq, Eq)]
 pub struct FramePlace {
     number: u16,
 }
@@ -48,7 +49,8 @@ impl FramePlace {
 
     /// The place behind this one, none behind the end block's.
     pub fn next(self) -> Option<FramePlace>
-        ensures { result ≡ next_place self }
+        ensures value { result ≡ next_place self }
+        ensures range { IfSome result IsPlace }
     {
         match self.number {
             992 => None,
@@ -56,6 +58,7 @@ impl FramePlace {
         }
     }
 
+    /// The number, 1 to 992.
     pub fn number(self) -> u16
         ensures value { result ≡ self }
         ensures range { IsPlace self }

@@ -10,7 +10,7 @@ ghost use Rattle.numbers.specs.Range.{IsOneTo480, checked, checked_frame};
 use refusal::Refusal;
 use std::marker::Model;
 
-// Structs of one shape, since none may stand for another; one type over a range would read no plainer, as `Number<1, 480, Client>`.
+// Structs of one shape: one type over a range and a tag, as `Number<1, 480, Client>`, would be written out at each use and in each error.
 /// A client's number, 1 to 480.
 #[derive(Clone, Copy, Debug, PartialEq, Eq)]
 pub struct ClientNumber {
@@ -110,6 +110,7 @@ impl TryFrom<u16> for FrameNumber {
 }
 
 impl ClientNumber {
+    /// The number, 1 to 480.
     pub fn number(self) -> u16
         ensures value { result ≡ self }
         ensures range { IsOneTo480 self }
@@ -117,6 +118,7 @@ impl ClientNumber {
         self.number
     }
 
+    // This and `from_entry` are no `From`, since an `Option` is not a type of this crate.
     /// An entry of a calendar or an overhead as a number: the client's, 0 for none.
     pub fn entry(client: Option<ClientNumber>) -> u16
         ensures value { result ≡ entry_of client }
@@ -137,6 +139,7 @@ impl ClientNumber {
 }
 
 impl SlotNumber {
+    /// The number, 1 to 480.
     pub fn number(self) -> u16
         ensures value { result ≡ self }
         ensures range { IsOneTo480 self }
@@ -154,6 +157,7 @@ impl SlotNumber {
 }
 
 impl FrameNumber {
+    /// The number, 0 to 479.
     pub fn number(self) -> u16
         ensures value { result ≡ self }
         ensures range { self < 480 }
@@ -163,7 +167,8 @@ impl FrameNumber {
 
     /// The slot whose client a frame of this number announces.
     pub fn slot(self) -> SlotNumber
-        ensures { result ≡ self + 1 }
+        ensures value { result ≡ self + 1 }
+        ensures range { IsOneTo480 result }
     {
         SlotNumber {
             number: self.number + 1,

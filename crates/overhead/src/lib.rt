@@ -1,10 +1,12 @@
-//! The overhead of a frame (ITU-T G.8312, Annex A): seven bytes that announce the client of one slot, with the frame's number and a CRC-7.
+//! The overhead of a frame: seven bytes that announce the client of one slot, with the frame's number and a CRC-7. Its fields are those of
+//! ITU-T G.8312, Annex A, in places of our own.
 //! Main promise: what `write` makes `read` gives back, and `read` answers a wrong remainder
 //! for each written overhead of which one, two or three bits among 10 to 55 were changed.
 #![tactic(auto)]
 
-ghost use Rattle.std.specs.Prelude.{◌≡◌, Ok};
+ghost use Rattle.std.specs.Prelude.{◌≡◌, ◌<◌, IfOk, Ok, true};
 ghost use Rattle.crc.specs.Bits.{bits};
+ghost use Rattle.numbers.specs.Entries.{is_entry};
 ghost use Rattle.overhead.specs.Entry.{answered_entry, read_entry, read_frame_number};
 ghost use Rattle.overhead.specs.Format.{answered, fields_of, overhead_bits, overhead_bytes, read_bytes};
 ghost use Rattle.overhead.specs.Laws.{ChangesSeen, OthersNotRead, WorkedOverheads};
@@ -15,18 +17,20 @@ use numbers::{ClientNumber, FrameNumber};
 /// What a frame's overhead says: the client to which the slot of this frame number belongs, if any.
 #[derive(Clone, Copy, Debug, PartialEq, Eq)]
 pub struct Overhead {
+    /// The client of the slot, if it has one.
     pub announced: Option<ClientNumber>,
+    /// The frame's number, which says which slot that is.
     pub frame: FrameNumber,
 }
 
 /// Why an overhead cannot be read; of several faults the first in this order.
 #[derive(Clone, Copy, Debug, PartialEq, Eq)]
 pub enum OverheadFault {
-    /// the remainder is not that of the bits before it
+    /// The remainder is not that of the bits before it.
     WrongRemainder,
-    /// the client number is above 480
+    /// The client number is above 480.
     ClientTooHigh,
-    /// the frame number is above 479
+    /// The frame number is above 479.
     FrameTooHigh,
 }
 
@@ -47,7 +51,8 @@ impl Overhead {
 
     /// What seven bytes say, or the first fault found; bits 0 to 9 are not looked at.
     pub fn read(bytes: &[u8; 7]) -> Result<Overhead, OverheadFault>
-        ensures { answered result ≡ read_bytes bytes.now }
+        ensures read { answered result ≡ read_bytes bytes.now }
+        ensures range { IfOk result (λ o. (is_entry o.announced ≡ true) × (o.frame < 480)) }
     {
         let [b0, b1, b2, b3, _, _, last] = *bytes;
         let remainder = Generator::degree_seven().remainder(bytes, 10, 49);
@@ -63,14 +68,16 @@ impl Overhead {
 
 // The client that an entry announces: none if it is 0.
 fn announced_client(entry: u16) -> Result<Option<ClientNumber>, OverheadFault>
-    ensures { answered_entry result ≡ read_entry entry }
+    ensures read { answered_entry result ≡ read_entry entry }
+    ensures range { IfOk result (λ announced. is_entry announced ≡ true) }
 {
     ClientNumber::from_entry(entry).map_err(|_| OverheadFault::ClientTooHigh)
 }
 
 // The frame that a number names.
 fn frame_number(number: u16) -> Result<FrameNumber, OverheadFault>
-    ensures { result ≡ read_frame_number number }
+    ensures read { result ≡ read_frame_number number }
+    ensures range { IfOk result (λ frame. frame < 480) }
 {
     FrameNumber::try_from(number).map_err(|_| OverheadFault::FrameTooHigh)
 }

@@ -25,7 +25,9 @@ pub type Payload = [u8; 7920];
 /// What a slot holds; the first block is sent first, and of each block the sync bits before the bytes.
 #[derive(Clone, Copy, Debug, PartialEq, Eq)]
 pub struct Pair {
+    /// The block that is sent first.
     pub first: Block,
+    /// The block that is sent second.
     pub second: Block,
 }
 
@@ -50,7 +52,8 @@ fn block(sync: u8, word: u64) -> Block
     }
 }
 
-// The eight payload bytes from byte `at` on, as a number.
+// The eight payload bytes from byte `at` on, as a number. That there are eight is asked here, in `put_word` and in frame's `data`: a type
+// for it would be made anew at each call, from a `Start` and 1, 8 or 9.
 #[tactic(auto, using(crate::proofs::Writing::bits_taken))]
 fn word_at(payload: &Payload, at: usize) -> u64
     requires { at + 8 ≤ 7920 }
@@ -201,8 +204,8 @@ pub fn pack(pairs: &[Pair; 480], payload: &mut Payload)
     ensures sent { bits payload.new ≡ flat_map pair_bits pairs.now }
     ensures undone { pairs_of payload.new ≡ pairs.now }
 {
-    // By twos, so that each call's half of the byte is known. A loop over the pairs, which tests it, takes about twice as long; one over
-    // chunks of two takes 1.03 times as long, and has an arm for chunks of another length.
+    // By twos, so that each call's half of the byte is known. A loop over the pairs, which tests it, takes about twice as long, and one
+    // over chunks of two 1.03 times as long.
     for two in 0..240usize {
         write_at(payload, Place::of_slot(2 * two), pairs[2 * two]);
         write_at(payload, Place::of_slot(2 * two + 1), pairs[2 * two + 1]);
@@ -223,7 +226,8 @@ pub fn unpack(payload: &Payload, pairs: &mut [Pair; 480])
     ensures made { pairs.new ≡ pairs_of payload.now }
     ensures undone { payload_of pairs.new ≡ payload.now }
 {
-    // By twos, as in `pack`: a loop over the pairs takes 1.6 times as long.
+    // By twos, as in `pack`: a loop over the pairs takes 1.6 times as long, and nothing is promised of what a slice ends as that
+    // `as_chunks_mut` took apart.
     for two in 0..240usize {
         pairs[2 * two] = read_at(payload, Place::of_slot(2 * two));
         pairs[2 * two + 1] = read_at(payload, Place::of_slot(2 * two + 1));

@@ -34,16 +34,22 @@ pub enum Refusal {
 /// The level at which a sheet is refused: its marks, the form of a line, or the calendar that it gives.
 #[derive(Clone, Copy, Debug, PartialEq, Eq)]
 pub enum Level {
+    /// Which bytes it holds.
     Marks,
+    /// How its lines are written.
     Forms,
+    /// What its leases ask for.
     Calendar,
 }
 
 /// Why a sheet is refused: the cause, the level that found it, and the line, counted from 1.
 #[derive(Clone, Copy, Debug, PartialEq, Eq)]
 pub struct SheetRefusal {
+    /// The rule that is broken.
     pub cause: Refusal,
+    /// The level that found it.
     pub level: Level,
+    /// Counted from 1.
     pub line: usize,
 }
 
