@@ -142,6 +142,7 @@ impl Message {
         }
     }
 
+    /// Its kind.
     pub fn kind(&self) -> Kind
         ensures { result ≡ self.now.kind }
     {

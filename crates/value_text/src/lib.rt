@@ -1,4 +1,5 @@
 //! How values are written as text, and the line that compares a value expected with one computed.
+//! Texts are `String`s, since they are compared with the text expected.
 //! Bytes are written in hexadecimal with single blanks, and a block with its sync bits in front.
 //! Main promise: `line` says `ok` exactly if the text computed is the text expected, and each text is the one that its definition gives.
 #![tactic(auto)]
@@ -15,6 +16,7 @@ use std::fmt;
 /// Bytes to be written in hexadecimal: two digits each, those above 9 as capital letters, and single blanks between the bytes.
 #[derive(Clone, Copy)]
 pub struct HexBytes<'a> {
+    /// The bytes, in the order of writing.
     pub bytes: &'a [u8],
 }
 
