@@ -6,7 +6,7 @@
 
 ghost use Rattle.std.specs.Prelude.{◌≡◌, IfOk, Some, string_bytes};
 ghost use Rattle.std.specs.Fmt.{WritesOnOk};
-ghost use Rattle.value_text.specs.Texts.{HexReadsBack, block_text, hex_of, line_of, refused_text, sync_text, verdict_of};
+ghost use Rattle.value_text.specs.Texts.{HexReadsBack, SameTexts, block_text, hex_of, line_of, refused_text, sync_text, verdict_of};
 
 use block::{Block, Sync};
 use refusal::Refusal;
@@ -14,7 +14,7 @@ use std::alloc::{AllocError, Global};
 use std::fmt;
 
 /// Bytes to be written in hexadecimal: two digits each, those above 9 as capital letters, and single blanks between the bytes.
-#[derive(Clone, Copy)]
+#[derive(Clone, Copy, Debug, PartialEq, Eq)]
 pub struct HexBytes<'a> {
     /// The bytes, in the order of writing.
     pub bytes: &'a [u8],
@@ -64,6 +64,11 @@ pub fn hex(alloc: Global, bytes: &[u8]) -> Result<String, AllocError>
     let hex = HexBytes { bytes };
     format!(in alloc; "{hex}")
 }
+
+/// The verdict of `line` is `ok` exactly for equal texts.
+pub fn same_texts()
+    ensures { SameTexts }
+{}
 
 /// Bytes are read back from their text.
 pub fn hex_reads_back()
