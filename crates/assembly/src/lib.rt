@@ -14,7 +14,7 @@ use message::{Kind, MessageBlock};
 use std::marker::Model;
 
 /// A message of which not all blocks have come. In contracts it is its kind and the value bytes that have come.
-#[derive(Clone, Copy)]
+#[derive(Clone, Copy, Debug, PartialEq, Eq)]
 pub struct Unfinished {
     kind: Kind,
     // how many blocks have come
@@ -44,7 +44,7 @@ impl Model for Unfinished {
 }
 
 /// A whole message. In contracts it is its kind and all its value bytes, the remainder's included.
-#[derive(Clone, Copy)]
+#[derive(Clone, Copy, Debug, PartialEq, Eq)]
 pub struct Message {
     kind: Kind,
     // its values, and zeros; an array of the longest message's size, since there is no heap here
@@ -142,6 +142,7 @@ impl Message {
         }
     }
 
+    /// Its kind.
     pub fn kind(&self) -> Kind
         ensures { result ≡ self.now.kind }
     {

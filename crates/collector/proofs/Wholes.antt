@@ -17,7 +17,7 @@ use Rattle.message.specs.Written.{message_blocks, parts, reads}
 use Rattle.message.proofs.Laws.{laws}
 use Rattle.message.proofs.Pairs.{paired_push, take_two}
 use Rattle.message.proofs.Writes.{lawful_length, some_blocks}
-use Rattle.collector.specs.declared.Fault.TheVariants.{Remainder}
+use Rattle.collector.specs.declared.BlockError.TheVariants.{WrongRemainder}
 use Rattle.assembly.specs.Content.{Content}
 use Rattle.collector.specs.State.{State, place_of}
 use Rattle.assembly.specs.Next.{Outcome, broken, wrong, whole, continued, extended, judged, next_of, same_kind, tested, left}
@@ -164,7 +164,7 @@ whole_found s before b k us sized h =
 pub change_found : (s : State) (before : List Call) (b : MessageBlock) (k : Kind) (us ws : List ℕ)
     → Arrives before b k ws → length us ≡ length ws → crc12 (bits us) ≡ 0
     → 0 < weight (xors (bits us) (bits ws)) → weight (xors (bits us) (bits ws)) ≤ 3
-    → (report_of (run s before) b).found ≡ Err Remainder
+    → (report_of (run s before) b).found ≡ Err WrongRemainder
 change_found s before b k us ws h l e lo hi =
     let S : State = run s before in
     let T : Tested S b k ws = arrived s before b k ws h in

@@ -8,7 +8,7 @@ use Rattle.message.specs.declared.MessageBlock.{MessageBlock}
 use Rattle.message.specs.Kinds.{blocks_of}
 use Rattle.message.specs.Values.{crc12, filled, lawful}
 use Rattle.message.specs.Written.{message_blocks, parts, reads}
-use Rattle.collector.specs.declared.Fault.TheVariants.{Remainder}
+use Rattle.collector.specs.declared.BlockError.TheVariants.{WrongRemainder}
 use Rattle.assembly.specs.Next.{same_kind}
 use Rattle.collector.specs.State.{State}
 use Rattle.collector.specs.Step.{after, is_aps, last_of, new_state, report_of, same, unasked}
@@ -77,7 +77,7 @@ pub record Laws : Type 0 where
   pub change_found : (s : State) (before : List Call) (b : MessageBlock) (k : Kind) (us ws : List ℕ)
       → Arrives before b k ws → length us ≡ length ws → crc12 (bits us) ≡ 0
       → 0 < weight (xors (bits us) (bits ws)) → weight (xors (bits us) (bits ws)) ≤ 3
-      → (report_of (run s before) b).found ≡ Err Remainder
+      → (report_of (run s before) b).found ≡ Err WrongRemainder
   -- A new collector reports no other message whole but a basic one.
   pub only_whole : (before : List Call) (b : MessageBlock) (k : Kind)
       → (report_of (run new_state before) b).found ≡ Ok (Some k) → (k ≢ Basic)

@@ -4,8 +4,8 @@ use Rattle.message.specs.declared.Kind.{Kind}
 use Rattle.message.specs.declared.Kind.TheVariants.{Basic, Aps, TwoDmm}
 use Rattle.message.specs.declared.MessageBlock.{MessageBlock}
 use Rattle.collector.specs.declared.Report.{Report}
-use Rattle.collector.specs.declared.Fault.{Fault}
-use Rattle.collector.specs.declared.Fault.TheVariants.{Remainder, UnknownKind}
+use Rattle.collector.specs.declared.BlockError.{BlockError}
+use Rattle.collector.specs.declared.BlockError.TheVariants.{WrongRemainder, UnknownCode}
 use Rattle.assembly.specs.Content.{Content}
 use Rattle.assembly.specs.Next.{Outcome, broken, going, wrong, whole, next_of, same_kind}
 use Rattle.collector.specs.State.{State, place_of}
@@ -49,10 +49,10 @@ settled k wrong s = held k None s
 settled k (whole u) s = kept u (held k None s)
 
 -- the kind of the message that is whole, if one is, or the fault
-abbrev pub found_of : Outcome → Result (Option Kind) Fault
+abbrev pub found_of : Outcome → Result (Option Kind) BlockError
 found_of broken = Ok None
 found_of (going u) = Ok None
-found_of wrong = Err Remainder
+found_of wrong = Err WrongRemainder
 found_of (whole u) = Ok (Some u.kind)
 
 abbrev pub is_broken : Outcome → Bool
@@ -92,7 +92,7 @@ abbrev pub after : State → MessageBlock → State
 after s b = after_kind b.kind s b
 
 abbrev pub report_kind : Option Kind → State → MessageBlock → Report
-report_kind None s b = record { broken = false; found = Err UnknownKind }
+report_kind None s b = record { broken = false; found = Err UnknownCode }
 report_kind (Some k) s b = if same_kind k Basic then report_basic b else report_part k s b
 
 abbrev pub report_of : State → MessageBlock → Report

@@ -5,7 +5,7 @@
 
 ghost use Rattle.std.specs.Prelude.{◌≡◌, IfSome, IsFalse, Some};
 ghost use Rattle.std.specs.Option.{option_map};
-ghost use Rattle.collector.specs.Faults.{fault_number, fault_text, faults_of};
+ghost use Rattle.collector.specs.Faults.{fault_from, fault_number, fault_text, faults_of};
 ghost use Rattle.collector.specs.Laws.{Laws};
 ghost use Rattle.collector.specs.State.{place_of};
 ghost use Rattle.collector.specs.Step.{after, after_basic, after_part, collection_of, held, kept, last_of, new_state, report_basic, report_of, report_part, unasked};
@@ -21,9 +21,32 @@ use std::marker::Model;
 /// The faults of message blocks: P1, P2 and P3.
 #[derive(Clone, Copy, Debug, PartialEq, Eq)]
 pub enum Fault {
+    /// P1: the bits of a message do not leave the remainder 0.
     Remainder,
+    /// P2: no kind has the code of the block.
     UnknownKind,
+    /// P3: the block does not follow what has come, or gives up what was begun.
     Sequence,
+}
+
+/// What a block can have besides a broken sequence.
+#[derive(Clone, Copy, Debug, PartialEq, Eq)]
+pub enum BlockError {
+    /// P1: it ends a message whose bits do not leave the remainder 0.
+    WrongRemainder,
+    /// P2: no kind has its code.
+    UnknownCode,
+}
+
+impl From<BlockError> for Fault {
+    ghost from_gives = { λ error fault. fault ≡ fault_from error };
+
+    fn from(error: BlockError) -> Fault {
+        match error {
+            BlockError::WrongRemainder => Fault::Remainder,
+            BlockError::UnknownCode => Fault::UnknownKind,
+        }
+    }
 }
 
 /// What is reported of a block. A start mark can break the sequence of the message that it gives up while its own block is sound or has a
@@ -33,7 +56,7 @@ pub struct Report {
     /// Whether the block broke a sequence: P3, at most once, and before any P1.
     pub broken: bool,
     /// The kind of the message that it makes whole, if one, or P1 or P2.
-    pub found: Result<Option<Kind>, Fault>,
+    pub found: Result<Option<Kind>, BlockError>,
 }
 
 /// The two collections, the last whole message of each kind, and the time of the question that waits.
@@ -70,7 +93,7 @@ fn place(kind: Kind) -> usize
 }
 
 impl Report {
-    fn new(broken: bool, found: Result<Option<Kind>, Fault>) -> Report
+    fn new(broken: bool, found: Result<Option<Kind>, BlockError>) -> Report
         ensures { result ≡ record { broken = broken; found = found } }
     {
         Report { broken, found }
@@ -81,7 +104,7 @@ impl Report {
         ensures { result ≡ faults_of self }
     {
         let first = self.broken.then_some(Fault::Sequence);
-        let second = self.found.err();
+        let second = self.found.err().map(Fault::from);
         [first, second]
     }
 }
@@ -110,6 +133,7 @@ impl fmt::Display for Fault {
 }
 
 impl Collector {
+    /// A collector to which no block has come.
     pub fn new() -> Collector
         ensures state { result ≡ new_state }
         ensures laws { Laws }
@@ -128,7 +152,7 @@ impl Collector {
         ensures report { result ≡ report_of self.old block }
     {
         match block.kind {
-            None => Report::new(false, Err(Fault::UnknownKind)),
+            None => Report::new(false, Err(BlockError::UnknownCode)),
             Some(Kind::Basic) => self.take_basic(block),
             Some(kind) => self.take_part(kind, block),
         }
@@ -174,6 +198,7 @@ impl Collector {
         let found = assembly::take(&mut collection, kind, block);
         self.hold(kind, collection);
         match found {
+            // in two steps: what a nested pattern `Ok(Some(message))` gives could not be cited in the answer
             Ok(whole) => {
                 let Some(message) = whole else {
                     return Report::new(broken, Ok(None));
@@ -182,7 +207,7 @@ impl Collector {
                 Report::new(broken, Ok(Some(message.kind())))
             }
             Err(AssemblyError::OutOfSequence) => Report::new(true, Ok(None)),
-            Err(AssemblyError::WrongRemainder) => Report::new(broken, Err(Fault::Remainder)),
+            Err(AssemblyError::WrongRemainder) => Report::new(broken, Err(BlockError::WrongRemainder)),
         }
     }
 

@@ -1,5 +1,5 @@
 //! A question of two-way delay that a collector has handed out.
-//! It can be neither let fall nor used twice: a value of this type has to be answered or declined, for it is dropped only once it is settled.
+//! It can be neither dropped unsettled nor used twice: a value of this type has to be answered or declined, for it is dropped only once it is settled.
 ghost use Rattle.std.specs.Prelude.{◌≡◌, ℕ, List, Ok, Err, IfErr, IsFalse, IsTrue, OnOk, Result};
 ghost use Rattle.refusal.specs.declared.Refusal.{Refusal as Cause};
 ghost use Rattle.collector.specs.Reply.{reply_values, RepliesLawful};
@@ -11,6 +11,7 @@ use std::marker::Model;
 pub struct Question {
     // when it was sent
     time: [u8; 8],
+    // a flag, so that `drop` can require it: with no `Drop` only the compiler refuses a question that is dropped, and no contract says so
     settled: bool,
 }
 
@@ -38,6 +39,7 @@ pub trait Answers {
     // what leaving these value bytes of a response does, and what is answered
     ghost left: { Self → List ℕ → Result (Unit {0}) Cause → Self → Type 0 };
 
+    /// Leaves the 26 value bytes of a response, or refuses them.
     fn leave(&mut self, values: &[u8; 26]) -> Result<(), Refusal>
         ensures { left self.old values.now result self.new };
 }

@@ -17,6 +17,7 @@ use std::fmt;
 /// The kinds of messages, by the names that ITU-T G.8312 gives them.
 #[derive(Clone, Copy, Debug, PartialEq, Eq)]
 pub enum Kind {
+    /// Basic: one block, with one mark.
     Basic,
     /// Automatic protection switching.
     Aps,
@@ -35,10 +36,12 @@ pub enum Kind {
 /// A code that no kind has.
 #[derive(Clone, Copy, Debug, PartialEq, Eq)]
 pub struct UnknownKind {
+    /// The code, six bits.
     pub code: u8,
 }
 
 impl Kind {
+    // Not `From<Kind> for u8`, since a caller would not say which number it takes.
     /// The code of the kind in the head byte of its blocks, six bits.
     pub fn code(self) -> u8
         ensures { result ≡ code_of self }
@@ -68,6 +71,21 @@ impl Kind {
             Kind::Cs => 1,
         }
     }
+
+    /// The name of the kind, as the standard writes it.
+    pub fn name(self) -> &'static str
+        ensures { result.now ≡ name_of self }
+    {
+        match self {
+            Kind::Basic => "basic",
+            Kind::Aps => "APS",
+            Kind::Cv => "CV",
+            Kind::OneDm => "1DM",
+            Kind::TwoDmm => "2DMM",
+            Kind::TwoDmr => "2DMR",
+            Kind::Cs => "CS",
+        }
+    }
 }
 
 impl TryFrom<u8> for Kind {
@@ -89,23 +107,12 @@ impl TryFrom<u8> for Kind {
     }
 }
 
+/// Its name.
 impl fmt::Display for Kind {
     ghost output = { λ kind. Some (name_of kind) };
 
     fn fmt<W: fmt::Write>(&self, f: &mut fmt::Formatter<W>) -> fmt::Result {
-        write!(
-            f,
-            "{}",
-            match self {
-                Kind::Basic => "basic",
-                Kind::Aps => "APS",
-                Kind::Cv => "CV",
-                Kind::OneDm => "1DM",
-                Kind::TwoDmm => "2DMM",
-                Kind::TwoDmr => "2DMR",
-                Kind::Cs => "CS",
-            }
-        )
+        write!(f, "{}", self.name())
     }
 }
 
@@ -121,14 +128,17 @@ impl From<UnknownKind> for Refusal {
 }
 
 /// What a message block says; the kind is none if its code is unknown.
-#[derive(Clone, Copy)]
+#[derive(Clone, Copy, Debug, PartialEq, Eq)]
 pub struct MessageBlock {
+    /// The kind that its code names, if one.
     pub kind: Option<Kind>,
-    /// Whether it has the start mark, and the end mark.
+    /// Whether it has the start mark.
     pub starts: bool,
+    /// Whether it has the end mark.
     pub ends: bool,
-    /// Its two value bytes.
+    /// Its first value byte.
     pub first: u8,
+    /// Its second value byte.
     pub second: u8,
 }
 
@@ -165,9 +175,11 @@ fn message_block(kind: Kind, starts: bool, ends: bool, first: u8, second: u8) ->
 }
 
 /// Where a basic message stands: it has the start mark before a protection opportunity and the end mark before a low priority one.
-#[derive(Clone, Copy)]
+#[derive(Clone, Copy, Debug, PartialEq, Eq)]
 pub enum Mark {
+    /// Before a protection opportunity.
     Start,
+    /// Before a low priority opportunity.
     End,
 }
 
@@ -181,6 +193,7 @@ pub fn basic(mark: Mark) -> Block
     }
 }
 
+// Kind and values stay two parameters, here and in `lawful`: a type of lawful values would need a call that refuses, as this one does.
 /// Writes the blocks of a message to the front of the output, and answers how many.
 /// Refused are values that are not lawful (10), and then an output with too few places (12); the output is then as before.
 pub fn write(kind: Kind, values: &[u8], output: &mut [Block]) -> Result<usize, Refusal>
@@ -199,7 +212,7 @@ pub fn write(kind: Kind, values: &[u8], output: &mut [Block]) -> Result<usize, R
     Ok(blocks)
 }
 
-/// The same for a code; one that no kind has is refused with 10.
+/// The same for a code, for a caller that has only the byte; one that no kind has is refused with 10.
 pub fn write_code(code: u8, values: &[u8], output: &mut [Block]) -> Result<usize, Refusal>
     ensures answer { result ≡ answer_for (kind_of code) values.now output.old }
     ensures output { output.new ≡ written_for (kind_of code) values.now output.old }

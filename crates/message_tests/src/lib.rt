@@ -6,7 +6,7 @@
 #[cfg(test)]
 mod tests {
     use block::{Block, Sync};
-    use collector::{Collector, Fault, Report};
+    use collector::{BlockError, Collector, Report};
     use message::{Kind, Mark, basic, read, write, write_code};
     use refusal::Refusal;
     use std::process::Abort;
@@ -45,7 +45,7 @@ mod tests {
     fn run(
         rt: &impl Abort,
         collector: &mut Collector,
-        table: &[(Block, bool, Result<Option<Kind>, Fault>)],
+        table: &[(Block, bool, Result<Option<Kind>, BlockError>)],
     ) {
         for (block, broken, found) in table {
             assert_eq!(rt;
@@ -217,7 +217,7 @@ mod tests {
             ],
         );
         // a wrong remainder
-        let wrong = Err(Fault::Remainder);
+        let wrong = Err(BlockError::WrongRemainder);
         run(
             &rt,
             &mut collector,
@@ -271,7 +271,7 @@ mod tests {
             run(
                 &rt,
                 &mut collector,
-                &[(part(4 * code + 3, 1, 2), false, Err(Fault::UnknownKind))],
+                &[(part(4 * code + 3, 1, 2), false, Err(BlockError::UnknownCode))],
             );
         }
         run(

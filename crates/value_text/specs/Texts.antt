@@ -1,5 +1,5 @@
 -- How values are written as text.
-use Rattle.std.specs.Prelude.{◌≡◌, ℕ, ◌+◌, ◌-◌, ◌*◌, ◌/◌, ◌%◌, if◌then◌else◌, List, [], ◌∷◌, ◌++◌, map, codes, decimal, nat_lt}
+use Rattle.std.specs.Prelude.{◌≡◌, ◌↔◌, ℕ, ◌+◌, ◌-◌, ◌*◌, ◌/◌, ◌%◌, if◌then◌else◌, List, [], ◌∷◌, ◌++◌, map, codes, decimal, nat_lt, IsTrue}
 use Rattle.std.specs.List.{flat_map}
 use Rattle.std.specs.Str.{bytes_eq}
 use Rattle.block.specs.declared.Block.{Block}
@@ -47,6 +47,10 @@ refused_text cause = codes "refused with " ++ decimal (number_of cause)
 -- ok only for equal texts
 abbrev pub verdict_of : List ℕ → List ℕ → List ℕ
 verdict_of expected computed = if bytes_eq expected computed then codes "ok" else codes "differs"
+
+-- texts are judged equal exactly if they are
+abbrev pub SameTexts : Type 0
+SameTexts = (expected computed : List ℕ) → IsTrue (bytes_eq expected computed) ↔ (expected ≡ computed)
 
 -- a line: the value's name, what is expected, what was computed, and whether they are the same
 abbrev pub line_of : List ℕ → List ℕ → List ℕ → List ℕ

@@ -1,11 +1,12 @@
 //! How values are written as text, and the line that compares a value expected with one computed.
+//! Texts are `String`s, since they are compared with the text expected.
 //! Bytes are written in hexadecimal with single blanks, and a block with its sync bits in front.
 //! Main promise: `line` says `ok` exactly if the text computed is the text expected, and each text is the one that its definition gives.
 #![tactic(auto)]
 
 ghost use Rattle.std.specs.Prelude.{◌≡◌, IfOk, Some, string_bytes};
 ghost use Rattle.std.specs.Fmt.{WritesOnOk};
-ghost use Rattle.value_text.specs.Texts.{HexReadsBack, block_text, hex_of, line_of, refused_text, sync_text, verdict_of};
+ghost use Rattle.value_text.specs.Texts.{HexReadsBack, SameTexts, block_text, hex_of, line_of, refused_text, sync_text, verdict_of};
 
 use block::{Block, Sync};
 use refusal::Refusal;
@@ -13,8 +14,9 @@ use std::alloc::{AllocError, Global};
 use std::fmt;
 
 /// Bytes to be written in hexadecimal: two digits each, those above 9 as capital letters, and single blanks between the bytes.
-#[derive(Clone, Copy)]
+#[derive(Clone, Copy, Debug, PartialEq, Eq)]
 pub struct HexBytes<'a> {
+    /// The bytes, in the order of writing.
     pub bytes: &'a [u8],
 }
 
@@ -62,6 +64,11 @@ pub fn hex(alloc: Global, bytes: &[u8]) -> Result<String, AllocError>
     let hex = HexBytes { bytes };
     format!(in alloc; "{hex}")
 }
+
+/// The verdict of `line` is `ok` exactly for equal texts.
+pub fn same_texts()
+    ensures { SameTexts }
+{}
 
 /// Bytes are read back from their text.
 pub fn hex_reads_back()

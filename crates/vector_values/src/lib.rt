@@ -1,5 +1,6 @@
 //! Worked values of the standard as the library computes them, written as text.
 //! Each is computed by the call that a user of the library makes, with bad input refused as that call refuses it.
+//! Texts are `String`s, since they are compared with the text expected.
 //! Main promise: each text is that of the value which the definition behind the call gives.
 #![tactic(auto)]
 
@@ -21,11 +22,12 @@ use refusal::Refusal;
 use std::alloc::{AllocError, Global};
 use value_text::{block_text, hex, refused};
 
-// The most blocks that a packet has, and a message.
+// The most blocks that a packet has, and a message: the places are lent to `write` from the stack, and it answers how many it took.
 const PACKET_BLOCKS: usize = 253;
 
 const MESSAGE_BLOCKS: usize = 17;
 
+// By entry, as the tables of `vectors` write it; `from_entry` is where 0 becomes none.
 // The overhead that announces a client, or none at entry 0.
 fn overhead_of(entry: u16, frame: u16) -> Result<Overhead, Refusal>
     ensures { said result ≡ checked_fields entry frame }
@@ -55,7 +57,7 @@ fn numbers_text(alloc: Global, overhead: Overhead) -> Result<String, AllocError>
     format!(in alloc; "client number {client}, frame number {frame}")
 }
 
-// Why an overhead is not read, in the words of this program; a `Display` of the fault would fix them for every user of `overhead`.
+// Why an overhead is not read, in the words of the worked values; a `Display` of the fault would fix them for every user of `overhead`.
 fn fault_text(fault: OverheadFault) -> &'static str
     ensures { result.now ≡ read_overhead (Err fault) }
 {
