@@ -24,7 +24,9 @@ pub struct FormError;
 /// Why a line is refused: the cause, and the level that found it.
 #[derive(Clone, Copy, Debug, PartialEq, Eq)]
 pub struct Fault {
+    /// Why the line is refused.
     pub cause: Refusal,
+    /// The level that found it.
     pub level: Level,
 }
 
@@ -82,18 +84,26 @@ impl From<FormError> for Refusal {
     }
 }
 
+/// A kind of byte that a sheet may hold.
 #[derive(Clone, Copy, Debug, PartialEq, Eq)]
 pub enum Mark {
+    /// An opening bracket.
     Open,
+    /// A closing bracket.
     Close,
+    /// A space.
     Blank,
+    /// A decimal digit.
     Digit,
+    /// A small letter.
     Letter,
+    /// A newline.
     LineEnd,
 }
 
 impl Mark {
     /// Which mark a byte is; none for a byte that a sheet may not hold.
+    // by literal cases and ranges, a form fixed by the owner; not `TryFrom`, since it is a line with such a byte that is refused
     pub fn of(byte: u8) -> Option<Mark>
         ensures { result ≡ mark_of byte }
     {
@@ -112,7 +122,9 @@ impl Mark {
 /// A group of slots as a line writes it.
 #[derive(Clone, Copy, Debug, PartialEq, Eq)]
 pub struct Group {
+    /// The number of the first slot as it is written, 0 to 999; whether it is a slot's, the level above says.
     pub first: u16,
+    /// The number of the last slot, likewise.
     pub last: u16,
 }
 

@@ -1,6 +1,7 @@
 -- The listing grows by one client's line.
-use Rattle.std.proofs.Common.{◌≡◌, ℕ, zero, suc, ◌+◌, ◌-◌, ◌≤◌, List, [], ◌∷◌, ◌++◌, Ok, sym, ap, ◌∙◌, add-zero, arith}
-use Rattle.std.specs.List.{range_with_len, flat_map}
+use Rattle.std.proofs.Common.{◌≡◌, ℕ, zero, suc, ◌+◌, ◌-◌, ◌≤◌, List, [], ◌∷◌, ◌++◌, map, Some, Option, sym, refl, ap, ◌∙◌, add-zero, arith}
+use Rattle.std.specs.List.{cons_option, filter_map, range_with_len, flat_map}
+use Rattle.std.specs.Result.{result_ok}
 use Rattle.std.proofs.lemmas.List.{flat_map_more}
 use Rattle.std.proofs.lemmas.Bool.Decides.{nat_tests}
 use Rattle.numbers.specs.Range.{checked}
@@ -23,6 +24,20 @@ joined_counting f (suc n) low =
     ap (flat_map f) (counting_more 1 n)
     ∙ (sym (flat_map_more f [] (range_with_len 1 n) (1 + n)) ∙ ap2 (λ k m. flat_map f (range_with_len 1 k) ++ f m) (sym less) last)
 
--- a checked number is the number itself
-pub checked_same : (n x : ℕ) → Ok x ≡ checked n → x ≡ n
-checked_same n x h = grind (arith, nat_tests)
+pub map_same : (xs : List ℕ) → map (λ x. x) xs ≡ xs
+map_same [] = refl
+map_same (x ∷ xs) = ap (λ ys. x ∷ ys) (map_same xs)
+
+-- the client that a number is, if it is one's
+abbrev pub client_of : ℕ → Option ℕ
+client_of n = result_ok (checked n)
+
+client_is : (n : ℕ) → 1 ≤ n → n ≤ 480 → client_of n ≡ Some n
+client_is n low high = grind (arith, nat_tests)
+
+-- the numbers from 1 to 480 are all clients'
+pub clients_all : (n a : ℕ) → 1 ≤ a → a + n ≤ 481 → filter_map client_of (range_with_len a n) ≡ range_with_len a n
+clients_all zero a low high = refl
+clients_all (suc n) a low high =
+    ap (λ o. cons_option o (filter_map client_of (range_with_len (a + 1) n))) (client_is a low (omega arith))
+    ∙ ap (λ ks. a ∷ ks) (clients_all n (a + 1) (omega arith) (omega arith))

@@ -45,11 +45,7 @@ pub fn listing(calendar: &Calendar, out: &mut [u8; LISTING_LEN]) -> usize
     ensures fits { result ≤ 5760 }
 {
     let mut text = TextOut::new(out);
-    // by number: a run of clients would be an iterator of its own, with a model and its laws, for this one loop
-    for number in 1..=480u16 {
-        let Ok(client) = ClientNumber::try_from(number) else {
-            unreachable()
-        };
+    for client in (1..481u16).filter_map(|number| ClientNumber::try_from(number).ok()) {
         put_client(&mut text, calendar, client);
     }
     text.finish()

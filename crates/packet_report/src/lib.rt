@@ -4,6 +4,7 @@
 #![tactic(auto)]
 
 ghost use Rattle.std.specs.Prelude.{◌≡◌, ◌<◌, [], ◌∷◌, length, nat_le};
+ghost use Rattle.numbers.specs.Range.{IsOneTo480};
 ghost use Rattle.packet.specs.Answers.{leaves};
 ghost use Rattle.packet_text.specs.Hex.{hex_byte, hex_digit, hex_text};
 ghost use Rattle.packet_report.specs.Texts.{carried_text, counts_text, print_answer, refused_text, room_for};
@@ -38,12 +39,13 @@ fn put_hex(text: &mut TextOut<'_>, bytes: &[u8])
     }
 }
 
-// Writes a packet's client, bytes and blocks. The client as a number: that it has three digits at most is known where the number was asked for.
-fn put_counts(text: &mut TextOut<'_>, client: u16, bytes: usize, blocks: usize)
-    ensures { Writes text.old text.new (counts_text client bytes blocks) }
+// Writes a packet's client, bytes and blocks.
+fn put_counts(text: &mut TextOut<'_>, client: ClientNumber, bytes: usize, blocks: usize)
+    ensures wrote { Writes text.old text.new (counts_text client bytes blocks) }
+    ensures range { IsOneTo480 client }
 {
     text.put(b"client ");
-    text.put_number(usize::from(client), b": ");
+    text.put_number(usize::from(client.number()), b": ");
     text.put_number(bytes, b" bytes, ");
     text.put_number(blocks, b" blocks, read back ");
 }
@@ -71,7 +73,7 @@ pub fn carried_line(
         return Err(Refusal::OutputTooShort);
     }
     let mut text = TextOut::new(out);
-    put_counts(&mut text, client.number(), bytes, blocks);
+    put_counts(&mut text, client, bytes, blocks);
     text.put_number(back.len(), b" bytes ");
     put_hex(&mut text, back);
     text.put(b"\n");

@@ -13,10 +13,13 @@ pub use form::cut_line;
 use form::{FormError, line_text, number, word};
 use refusal::Refusal;
 
-/// What a line says: the client's number as it is written, which may be no client's, and how many bytes its packet has.
-#[derive(Clone, Copy)]
+/// What a line says.
+#[derive(Clone, Copy, Debug, PartialEq, Eq)]
 pub struct PacketLine {
+    /// The client's number as it is written, 0 to 999. It may be no client's: out of range is the caller's refusal, behind the form
+    /// and behind the packet's length.
     pub client: u16,
+    /// Bytes of the packet.
     pub length: usize,
 }
 
@@ -62,6 +65,8 @@ fn read_hex(digits: &[u8], out: &mut [u8]) -> Result<usize, Refusal>
     if out.len() < length {
         return Err(Refusal::OutputTooShort);
     }
+    // the second arm is never taken: the digits are hexadecimal, and the output has their room; by `map_err` and `?` both goals behind
+    // the call were left open
     match hex::decode_to_slice(digits, &mut out[..length]) {
         Ok(()) => Ok(length),
         Err(_) => Err(Refusal::FormBroken),

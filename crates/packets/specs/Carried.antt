@@ -1,5 +1,5 @@
 -- What becomes of a line of the input: why it is refused, how its packet is put into a store, and what is printed of it.
-use Rattle.std.specs.Prelude.{◌≡◌, ℕ, ◌+◌, ◌%◌, false, ◌⊎◌, if◌then◌else◌, min, List, length, Some, None, Ok, Err, Option, Result, MatchBool, nat_le}
+use Rattle.std.specs.Prelude.{◌≡◌, ℕ, ◌+◌, ◌%◌, true, false, ◌⊎◌, if◌then◌else◌, min, List, length, Some, None, Ok, Err, Option, Result, MatchBool, nat_le}
 use Rattle.block.specs.declared.Block.{Block}
 use Rattle.block.specs.Fixed.{idle_block}
 use Rattle.packet.specs.Answers.{bytes_of, leaves}
@@ -21,6 +21,12 @@ abbrev pub LineRefused : Option (ℕ × List ℕ) → Refusal → Type 0
 LineRefused None cause = cause ≡ FormBroken
 LineRefused (Some line) cause = MatchBool (nat_le (length line.1) longest) ((in_range line.0 ≡ false) × (cause ≡ OutOfRange)) (cause ≡ OutputTooShort)
 
+-- a line with the form, whose packet is not too long and whose client is in range: just the lines that are not refused
+pub record LineRead (line : Option (ℕ × List ℕ)) (client : ℕ) (packet : List ℕ) : Type 0 where
+  pub form : line ≡ Some (client, packet)
+  pub short : nat_le (length packet) longest ≡ true
+  pub lawful : in_range client ≡ true
+
 -- a line's packet put into a store for its client; a line that is refused changes nothing
 pub record LineKept (line : Option (ℕ × List ℕ)) (r : Result ℕ Refusal) (before after : Holding) : Type 0 where
   pub cause : Refusal
@@ -31,7 +37,7 @@ pub record LineKept (line : Option (ℕ × List ℕ)) (r : Result ℕ Refusal) (
 pub record LinePut (line : Option (ℕ × List ℕ)) (r : Result ℕ Refusal) (before after : Holding) : Type 0 where
   pub client : ℕ
   pub packet : List ℕ
-  pub form : line ≡ Some (client, packet)
+  pub read : LineRead line client packet
   pub put : PacketPut client packet r before after
 
 abbrev pub LineStored : Option (ℕ × List ℕ) → Result ℕ Refusal → Holding → Holding → Type 0
@@ -58,4 +64,4 @@ abbrev pub LineCarried : Option (ℕ × List ℕ) → Result ℕ Refusal → (�
 LineCarried line (Err cause) before after r out now = (r ≡ Err cause) × (after ≡ before) × (now ≡ out)
 LineCarried line (Ok count) before after r out now =
     ((cause : Refusal) × LineRefused line cause × (r ≡ Err cause) × (after ≡ before) × (now ≡ out))
-    ⊎ ((client : ℕ) × (packet : List ℕ) × (line ≡ Some (client, packet)) × Carried client (length packet) count before after r out now)
+    ⊎ ((client : ℕ) × (packet : List ℕ) × LineRead line client packet × Carried client (length packet) count before after r out now)

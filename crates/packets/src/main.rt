@@ -3,9 +3,9 @@
 //! Main promise: none of its own; `packet_text`, `transfer` and `packet_report` read, carry and print, and `main` reads and writes bytes.
 #![tactic(auto)]
 
-ghost use Rattle.std.specs.Prelude.{◌≡◌, ◌≤◌, Some, IfErr, IfOk, length, take};
+ghost use Rattle.std.specs.Prelude.{◌≤◌, IfErr, IfOk, length, take};
 ghost use Rattle.packet_text.specs.Lines.{line_form};
-ghost use Rattle.packets.specs.Carried.{LineCarried, LineRefused, LineStored};
+ghost use Rattle.packets.specs.Carried.{LineCarried, LineRead, LineRefused, LineStored};
 
 use block::Block;
 use numbers::ClientNumber;
@@ -79,9 +79,11 @@ struct Stored<'a> {
     blocks: Result<usize, Refusal>,
 }
 
-// Reads the packet of a line into the bytes; answers its client and its length.
+// Reads the packet of a line into the bytes; answers its client and its length. The bytes are an array with a length beside it, as
+// the packet that is read back in `carry_line` is: both readers write into lent places. A `Vec` would be filled with as many zeros first,
+// and cut off behind; and each line could then run out of memory.
 fn read_packet(line: &[u8], bytes: &mut [u8; BYTES]) -> Result<(ClientNumber, usize), Refusal>
-    ensures read { IfOk result (λ p. line_form line.now ≡ Some (p.0, take p.1 bytes.new)) }
+    ensures read { IfOk result (λ p. LineRead (line_form line.now) p.0 (take p.1 bytes.new)) }
     ensures within { IfOk result (λ p. p.1 ≤ length bytes.new) }
     ensures refused { IfErr result (LineRefused (line_form line.now)) }
 {
@@ -144,7 +146,7 @@ fn main(rt: HostRuntime) -> Result<(), Failure> {
         let mut text = [0; LINE];
         let length = carry_line(*line, &mut tape, &mut text)
             .or_else(|cause| packet_report::refused_line(index + 1, cause, &mut text))
-            .or(Err(Failure::LineTooLong))?;
+            .map_err(|_| Failure::LineTooLong)?;
         let text = text.get(0..length).ok_or(Failure::LineTooLong)?;
         rt.stdout().write_all(text)?;
     }

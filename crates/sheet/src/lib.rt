@@ -40,7 +40,8 @@ fn give(draft: &mut Calendar, client: ClientNumber, first: SlotNumber, last: Slo
 }
 
 // Gives a group's slots to a client; whether one of them had a client. The client is a number as the line writes it, here and up to
-// `lease`: that it is none is the graver fault only once the whole form is read.
+// `lease`: that it is no client's is a fault only once the whole form is read. Calendar and client are not one struct: with the
+// calendar as a `&mut` in a field, each of the five functions would have to promise that it is the same loan.
 fn grant(draft: &mut Calendar, client: u16, group: Group) -> Result<bool, Refusal>
     ensures fits { is_ok result ≡ fits client (group_of group) }
     ensures again { IfOk result (λ again. again ≡ used (group_of group) (entries_of draft.old)) }
@@ -58,7 +59,7 @@ fn grant(draft: &mut Calendar, client: u16, group: Group) -> Result<bool, Refusa
 }
 
 // What a line's groups so far come to: all are in range, and a slot was given twice. Both are kept, and neither as an error, since
-// what stands behind a group may be the graver fault.
+// a fault behind a group may be the one that is named.
 #[derive(Clone, Copy)]
 struct Claims {
     lawful: bool,
@@ -107,8 +108,8 @@ fn is_named(draft: &Calendar, client: u16) -> bool
     ClientNumber::try_from(client).is_ok_and(|client| draft.share(client).0 > 0)
 }
 
-// What a line's claims come to: a number out of range first, then the client, then its slots.
-fn weigh(known: bool, claims: Claims) -> Result<(), Fault>
+// The fault of a line that has the form, if it has one: a number out of range first, then the client, then its slots.
+fn first_fault(known: bool, claims: Claims) -> Result<(), Fault>
     ensures lawful { OnOk result ((n : ℕ) (es : List ℕ) → weighed n known (claim_of es claims) ≡ Ok es) }
     ensures fault { IfErr result (λ fault. (n : ℕ) (es : List ℕ) → weighed n known (claim_of es claims) ≡ Err (refused fault.cause fault.level n)) }
 {
@@ -135,7 +136,7 @@ fn lease(draft: &mut Calendar, line: &[u8]) -> Result<(), Fault>
     let (client, text) = read_client(line)?;
     let known = is_named(draft, client);
     let claims = claim_all(draft, client, text)?;
-    weigh(known, claims)
+    first_fault(known, claims)
 }
 
 // Reads the first line of what is left of a sheet, and answers what follows it.
@@ -160,6 +161,7 @@ fn read_lines(sheet: &[u8], calendar: &mut Calendar) -> Result<(), SheetRefusal>
     let mut draft = Calendar::empty();
     let mut rest = sheet;
     let mut number = 1;
+    // not by `split_inclusive`: `first_line` cuts the line off itself and answers what follows, so that each newline is looked for once
     while !rest.is_empty() {
         // not by `map_err`, since what its closure answers was left open in the proof
         match read_line(&mut draft, rest) {

@@ -2,8 +2,9 @@
 //! No call can fail, and pieces in a row write what their join would; whoever must know that all of it fits counts its bytes.
 #![tactic(auto)]
 
-ghost use Rattle.std.specs.Prelude.{◌≡◌, ◌++◌, decimal};
-ghost use Rattle.text_out.specs.Wrote.{Writes};
+ghost use Rattle.std.specs.Prelude.{◌≤◌, length};
+
+mod calls;
 
 /// The text so far, as the first `len` bytes of the places. Clauses name the fields, since through them the lender learns what its
 /// memory holds afterwards.
@@ -11,53 +12,5 @@ ghost use Rattle.text_out.specs.Wrote.{Writes};
 pub struct TextOut<'a> {
     places: &'a mut [u8],
     len: usize,
-}
-
-impl<'a> TextOut<'a> {
-    /// No text yet.
-    pub fn new(places: &'a mut [u8]) -> TextOut<'a>
-        ensures same { result.places.ghost_name ≡ places.entry.ghost_name }
-        ensures places { result.places.now ≡ places.old }
-        ensures empty { result.len ≡ 0 }
-    {
-        TextOut { places, len: 0 }
-    }
-
-    /// Writes a text, as far as there are places.
-    pub fn put(&mut self, text: &[u8])
-        ensures { Writes self.old self.new text.now }
-    {
-        if self.places.len() < self.len {
-            return;
-        }
-        let count = text.len().min(self.places.len() - self.len);
-        let end = self.len + count;
-        self.places[self.len..end].copy_from_slice(&text[..count]);
-        self.len = end;
-    }
-
-    // Writes a number in decimal likewise.
-    fn put_decimal(&mut self, number: usize)
-        ensures { Writes self.old self.new (decimal number) }
-    {
-        let mut digits = itoa::Buffer::new();
-        self.put(digits.format(number).as_bytes());
-    }
-
-    /// Writes a number in decimal and the text after it likewise.
-    pub fn put_number(&mut self, number: usize, after: &[u8])
-        ensures { Writes self.old self.new (decimal number ++ after.now) }
-    {
-        self.put_decimal(number);
-        self.put(after);
-    }
-
-    /// Gives the memory back, and answers how many bytes of it are text.
-    pub fn finish(self) -> usize
-        ensures places { self.exit.0.now ≡ self.entry.places.now }
-        ensures value { result ≡ self.entry.len }
-    {
-        let TextOut { len, .. } = self;
-        len
-    }
+    ghost within: { len ≤ length places.now },
 }

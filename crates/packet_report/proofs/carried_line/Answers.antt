@@ -16,7 +16,7 @@ returns c =
     let short = short_carried c.args.client c.args.bytes c.args.blocks back (omega arith) (omega arith) (omega arith) (omega arith) in
     let puts : Puts 0 text c.args.out.now c.put.new.self.places.now c.put.new.self.len =
     rw (← c.new-text.ensures.places, ← c.new-text.ensures.empty)
-    (puts_more (rw c.number.ensures.value at c.put_counts.ensures.puts)
+    (puts_more c.put_counts.ensures.wrote.puts
     (puts_parts (decimal (length back)) (codes " bytes ") c.put_number.ensures.puts (puts_more c.put_hex.ensures.puts c.put.ensures.puts))) in
     let wrote : Wrote 0 text c.args.out.now c.put.new.self.places.now c.finish.result = wrote_as (puts_whole (omega arith) puts) refl c.finish.ensures.value in
     record {

@@ -5,11 +5,13 @@ use Rattle.packet_report.proofs.put_counts.Goals as goal
 
 pub returns : goal.returns
 unfolding counts_text
-returns c =
-    record {
+returns c = record {
+  wrote = record {
       same = c.put_number-3.ensures.same ∙ (c.put_number-2.ensures.same ∙ (c.put_number.ensures.same ∙ c.put.ensures.same));
       puts =
           puts_more c.put.ensures.puts
-          (puts_parts (decimal c.args.client) (codes ": ") (rw c.from.ensures at c.put_number.ensures.puts)
+          (puts_parts (decimal c.args.client) (codes ": ") (rw (c.from.ensures, c.number.ensures.value) at c.put_number.ensures.puts)
           (puts_parts (decimal c.args.bytes) (codes " bytes, ") c.put_number-2.ensures.puts c.put_number-3.ensures.puts));
-    }
+    };
+  range = c.number.ensures.range;
+}
