@@ -17,6 +17,7 @@ use refusal::Refusal;
 const CLIENTS: usize = 480;
 
 // The blocks of an area: the place of the first, and how many there are.
+// no invariant that it fits its area: each write of the array of rings would owe it for all 480
 #[derive(Clone, Copy)]
 struct Ring {
     first: usize,
@@ -38,6 +39,7 @@ impl Ring {
     }
 }
 
+/// Lent memory in areas of `width` places, with the ring of each client's blocks in its area.
 #[derive(Drop)]
 pub struct Bank<'a> {
     memory: &'a mut [Block],
@@ -118,6 +120,7 @@ impl<'a> Outlet for Bank<'a> {
     ghost holding = { bank_holding };
 
     fn free(&self, client: ClientNumber) -> usize {
+        // not by `map_or`, which was tried: a goal of its closure was left open
         let Some(_) = self.area(client) else {
             return 0;
         };

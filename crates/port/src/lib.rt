@@ -43,6 +43,8 @@ pub trait Store: Inlet + Outlet {
         ensures { result ≡ first_of (Self.Inlet.waiting self.now client) };
 
     // what it holds for a client is what waits for it
+    // a law: it holds of every value and not of those that a call is given alone, which asks more of a maker than a clause of
+    // `first` would
     ghost one_list: { (store : Self) → Self.Inlet.waiting store ≡ (Self.Outlet.holding store).held };
 }
 

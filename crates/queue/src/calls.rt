@@ -1,4 +1,4 @@
-// The calls of a queue, apart from the struct, whose ghost field may not see the definitions that name it.
+//! The calls of a queue, apart from the struct, whose ghost field may not see the definitions that name it.
 
 ghost use Rattle.std.specs.Prelude.{◌≡◌, ◌<◌, ◌≤◌, ◌==◌, [], length, drop, position, IfSome, Some};
 ghost use Rattle.std.specs.List.{remove, slice_get};
@@ -29,6 +29,13 @@ impl<'a, T: Keyed + Copy> Queue<'a, T> {
         ensures within { result ≤ place_count self.now }
     {
         self.in_use().len()
+    }
+
+    /// Is no place in use?
+    pub fn is_empty(&self) -> bool
+        ensures { result ≡ (length (entries self.now) == 0) }
+    {
+        self.len == 0
     }
 
     /// The number of places not in use.

@@ -11,11 +11,13 @@ mod calls;
 pub trait Keyed {
     ghost key_of: { Self → ℕ };
 
+    /// The key by which the entry is looked for; several entries may have the same.
     fn key(&self) -> u16
         ensures { result ≡ key_of self.now };
 }
 
 /// Entries in lent places, of which the first `len` are in use.
+// a slice with a length beside it: the memory is lent, and this form is fixed for it
 // no `impl Model`: it hides the places, and what the lender's memory holds after the loan was then not proved
 #[derive(Drop)]
 pub struct Queue<'a, T> {

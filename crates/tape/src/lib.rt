@@ -40,6 +40,7 @@ impl Keyed for TaggedBlock {
     }
 }
 
+/// Blocks of all clients in one queue, in the order in which they were put.
 #[derive(Drop)]
 pub struct Tape<'a> {
     queue: Queue<'a, TaggedBlock>,

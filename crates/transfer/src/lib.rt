@@ -18,6 +18,7 @@ use packet_inlet::PacketInlet;
 use port::{Inlet, Outlet};
 use refusal::Refusal;
 
+// Every call names its client, as the traits of `port` fix it: a struct of a store and a client would be made for each call.
 /// Moves so many pairs of the client's blocks from the inlet to the outlet, or none, with `NoFreePlace`, where their places
 /// are not free.
 pub fn move_pairs<I: Inlet, O: Outlet>(
