@@ -153,6 +153,7 @@ impl<'a> Store for Bank<'a> {
 
     ghost one_list = { λ bank. refl };
 
+    // not one function with `next`, which needs the ring and its count too and would read them a second time
     fn first(&self, client: ClientNumber) -> Option<Block> {
         let start = self.area(client)?;
         let ring = self.ring(client);
