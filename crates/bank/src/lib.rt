@@ -131,9 +131,7 @@ impl<'a> Outlet for Bank<'a> {
         ensures put { Put client a b result (bank_holding self.old) (bank_holding self.new) }
         ensures contents { contents self.new ≡ record (contents self.old) { holding = after_put result client a b (bank_holding self.old) } }
     {
-        let Some(start) = self.area(client) else {
-            return Err(Refusal::NoFreePlace);
-        };
+        let start = self.area(client).ok_or(Refusal::NoFreePlace)?;
         let ring = self.ring(client);
         if self.width.saturating_sub(ring.count) < 2 {
             return Err(Refusal::NoFreePlace);
@@ -155,6 +153,7 @@ impl<'a> Store for Bank<'a> {
 
     ghost one_list = { λ bank. refl };
 
+    // not one function with `next`, which needs the ring and its count too and would read them a second time
     fn first(&self, client: ClientNumber) -> Option<Block> {
         let start = self.area(client)?;
         let ring = self.ring(client);

@@ -13,6 +13,9 @@ use Rattle.block.specs.Classes.{class_of, control_class, end_class}
 use Rattle.block.specs.Fixed.{idle_bytes}
 use Rattle.packet.specs.Format.{opening, in_range}
 use Rattle.packet.specs.Reading.{Found, prefixed, carried, sized}
+use Rattle.std.specs.Bool.{then_some}
+use Rattle.std.specs.Prelude.{MatchOption}
+use Rattle.packet.specs.declared.Extent.{Extent}
 use Rattle.packet.specs.Spans.{bytes_in, spanned, Spans}
 
 -- an end carries at most seven bytes
@@ -114,6 +117,11 @@ module _ (bs : List Block) (n k : ℕ) (d : Block) (l : n < length bs) (w : Walk
   pub none_sized : false ≡ in_range (8 * n + k) → sized (carried bs) ≡ None
   none_sized t =
       ap sized (ended bs n k d l w e) ∙ sized_out (spanned bs n k) (8 * n + k) (n + 1) (spanned_long bs n k d l w g (end_few (get_or bs n d) k e)) t
+
+-- the extent there, if so many bytes are in range
+pub extent_there : (bs : List Block) (n k : ℕ) (d : Block) → n < length bs → Walked bs n → End k ≡ class_of (get_or bs n d) → length (get_or bs n d).bytes ≡ 8 → (t : Bool) → t ≡ in_range (8 * n + k) → MatchOption (then_some t (record { whole = n; left = k })) (sized (carried bs) ≡ None) (λ (e : Extent). Spans bs (sized (carried bs)) e.whole e.left)
+extent_there bs n k d l w e g true t = spans bs n k d l w e g t
+extent_there bs n k d l w e g false t = none_sized bs n k d l w e g t
 
 carried_other : (b : Block) (bs : List Block) → (class_of b ≡ Data → ⊥) → ((n : ℕ) → class_of b ≡ End n → ⊥) → carried (b ∷ bs) ≡ None
 unfolding carried

@@ -146,10 +146,7 @@ fn find_end(blocks: &[Block]) -> Option<Extent>
             }
             Class::End(left) => {
                 let left = left as usize;
-                if is_packet_length(8 * whole + left) {
-                    return Some(Extent { whole, left });
-                }
-                return None;
+                return is_packet_length(8 * whole + left).then_some(Extent { whole, left });
             }
             _ => return None,
         }
