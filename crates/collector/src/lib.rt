@@ -207,7 +207,10 @@ impl Collector {
                 Report::new(broken, Ok(Some(message.kind())))
             }
             Err(AssemblyError::OutOfSequence) => Report::new(true, Ok(None)),
-            Err(AssemblyError::WrongRemainder) => Report::new(broken, Err(BlockError::WrongRemainder)),
+            Err(AssemblyError::WrongRemainder) => Report::new(
+                broken,
+                Err(BlockError::WrongRemainder),
+            ),
         }
     }
 

@@ -271,7 +271,11 @@ mod tests {
             run(
                 &rt,
                 &mut collector,
-                &[(part(4 * code + 3, 1, 2), false, Err(BlockError::UnknownCode))],
+                &[(
+                    part(4 * code + 3, 1, 2),
+                    false,
+                    Err(BlockError::UnknownCode),
+                )],
             );
         }
         run(
