@@ -7,11 +7,11 @@ pub returns : goal.returns
 unfolding counts_text
 returns c = record {
   wrote = record {
-      same = c.put_number-3.ensures.same ∙ (c.put_number-2.ensures.same ∙ (c.put_number.ensures.same ∙ c.put.ensures.same));
-      puts =
-          puts_more c.put.ensures.puts
-          (puts_parts (decimal c.args.client) (codes ": ") (rw (c.from.ensures, c.number.ensures.value) at c.put_number.ensures.puts)
-          (puts_parts (decimal c.args.bytes) (codes " bytes, ") c.put_number-2.ensures.puts c.put_number-3.ensures.puts));
-    };
+    same = c.put_number-3.ensures.same ∙ (c.put_number-2.ensures.same ∙ (c.put_number.ensures.same ∙ c.put.ensures.same));
+    puts =
+        puts_more c.put.ensures.puts
+        (puts_parts (decimal c.args.client) (codes ": ") (rw (c.from.ensures, c.number.ensures.value) at c.put_number.ensures.puts)
+        (puts_parts (decimal c.args.bytes) (codes " bytes, ") c.put_number-2.ensures.puts c.put_number-3.ensures.puts));
+  };
   range = c.number.ensures.range;
 }
