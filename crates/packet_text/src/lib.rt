@@ -65,12 +65,9 @@ fn read_hex(digits: &[u8], out: &mut [u8]) -> Result<usize, Refusal>
     if out.len() < length {
         return Err(Refusal::OutputTooShort);
     }
-    // the second arm is never taken: the digits are hexadecimal, and the output has their room; by `map_err` and `?` both goals behind
-    // the call were left open
-    match hex::decode_to_slice(digits, &mut out[..length]) {
-        Ok(()) => Ok(length),
-        Err(_) => Err(Refusal::FormBroken),
-    }
+    // never refused: the digits are hexadecimal, and the output has their room
+    hex::decode_to_slice(digits, &mut out[..length]).map_err(|_| Refusal::FormBroken)?;
+    Ok(length)
 }
 
 // Reads a line without the laws that `read_line` adds.
