@@ -239,6 +239,7 @@ fn write_blocks(kind: Kind, values: &[u8], output: &mut [Block])
     ensures { output.new ≡ message_blocks kind (filled values.now) ++ drop (blocks_of kind) output.old }
 {
     let last = kind.blocks() - 1;
+    // by place: with a `zip` the first block would still be told from the others by its number
     for (i, pair) in values.chunks_exact(2).take(last).enumerate() {
         output[i] = message_block(kind, i == 0, false, pair[0], pair[1]);
     }

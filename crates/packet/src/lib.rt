@@ -100,6 +100,7 @@ pub fn write(packet: &[u8], out: &mut [Block]) -> Result<usize, Refusal>
     }
     let (eights, left) = packet.as_chunks::<8>();
     out[0] = OPENING;
+    // by place, here and in `copy_bytes`: for a `zip` the output would first be cut out behind its first block and before its end
     for (i, eight) in eights.iter().enumerate() {
         out[i + 1] = data_block(*eight);
     }

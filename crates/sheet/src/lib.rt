@@ -27,8 +27,8 @@ fn give(draft: &mut Calendar, client: ClientNumber, first: SlotNumber, last: Slo
     ensures again { result ≡ used (record { first = first; last = last }) (entries_of draft.old) }
 {
     let mut again = false;
-    // by number, which the invariant counts by: a `filter_map`, as in `listing`, would leave out what is no slot just as the `if let`
-    // does, and was not tried here
+    // by number: a chain by `filter_map`, as in `listing`, would leave out what is no slot just as the `if let` does, and its invariant
+    // would speak of what the chain has yielded, where this one counts
     for number in first.number()..last.number() + 1 {
         if let Ok(slot) = SlotNumber::try_from(number) {
             if draft.client(slot).is_some() {
