@@ -122,6 +122,7 @@ impl Unfinished {
 fn resumed(collection: Option<Unfinished>, kind: Kind) -> Result<Unfinished, AssemblyError>
     ensures { result ≡ resumed kind collection }
 {
+    // by one match, where the kind is tested: with `filter` and `ok_or` the test would stand in a closure that borrows the kind
     match collection {
         Some(unfinished) if unfinished.kind == kind => Ok(unfinished),
         _ => Err(AssemblyError::OutOfSequence),

@@ -11,6 +11,7 @@ ghost use Rattle.numbers.specs.Entries.{entry_of, is_entry};
 use numbers::{ClientNumber, SlotNumber};
 
 /// Which client has which slot. Its facts stand in ghost fields and not in a model, so that a caller's proof has them with no call.
+// No `PartialEq` and no `Debug`: a calendar is read by `client` and `share`, and none is compared or printed.
 #[derive(Clone, Copy)]
 pub struct Calendar {
     // by rising slot
@@ -58,6 +59,7 @@ impl Calendar {
     {
         // says of the client what its type keeps, that it is in range
         let _ = client.number();
+        // by match: a closure for `map_or` would hold the calendar and the client, and reads no plainer
         match self.first_index(client) {
             Some(first) => (self.count_from(first, client), first as u16 + 1),
             None => (0, 0),

@@ -140,6 +140,7 @@ fn newline(text: &[u8]) -> Option<usize>
 pub fn cut_line(text: &[u8]) -> (&[u8], &[u8])
     ensures { (result.0.now, result.1.now) ≡ cut_line text.now }
 {
+    // by match, here and in `extended`: each arm answers a pair, and `map_or` would have one of them first and the other in a closure
     match newline(text) {
         Some(end) => (&text[..end + 1], &text[end + 1..]),
         None => (text, &[]),

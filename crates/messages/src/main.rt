@@ -37,7 +37,7 @@ impl Answers for Desk {
     }
 }
 
-// The blocks of a message, and idles behind them.
+// The blocks of a message, and idles behind them, since `write` takes lent places; `give` ends at the first block that is no message.
 fn made(kind: Kind, values: &[u8]) -> [Block; 17] {
     let mut blocks = [Block::idle(); 17];
     // never refused: the values are lawful, and 17 places take every message; the output stored shows it

@@ -75,6 +75,7 @@ pub fn block_at(packet: &[u8], place: usize) -> Option<Block>
         return Some(OPENING);
     }
     let (eights, left) = packet.as_chunks::<8>();
+    // by comparison and not by `get`: what is subtracted below must be known to be no more than `at`
     let at = place - 1;
     if at < eights.len() {
         return Some(data_block(eights[at]));
@@ -100,7 +101,7 @@ pub fn write(packet: &[u8], out: &mut [Block]) -> Result<usize, Refusal>
     }
     let (eights, left) = packet.as_chunks::<8>();
     out[0] = OPENING;
-    // by place, here and in `copy_bytes`: for a `zip` the output would first be cut out behind its first block and before its end
+    // by place, here and in `copy_bytes`: the end behind them is written by place too, at the next one
     for (i, eight) in eights.iter().enumerate() {
         out[i + 1] = data_block(*eight);
     }

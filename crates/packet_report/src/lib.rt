@@ -30,7 +30,7 @@ fn hex_digit(value: u8) -> u8
 }
 
 // Writes bytes in hexadecimal. The kit's `hex::encode_to_slice` refuses an output that is longer than the digits, so each byte is
-// written by itself.
+// written by itself; and into two places it would answer a `Result` for what cannot fail.
 fn put_hex(text: &mut TextOut<'_>, bytes: &[u8])
     ensures { Writes text.old text.new (hex_text bytes.now) }
 {

@@ -1,4 +1,6 @@
 -- Bits in sending order: the lowest bit of byte 0 goes first.
+-- Not the bits of `crc`, which are Booleans: here a bit is a number, as in `low` and `value`. With one of the two, every clause on bits of
+-- payload and frame, or those of crc, would be of another type.
 use Rattle.std.specs.Prelude.{◌≡◌, ℕ, zero, suc, ◌+◌, ◌*◌, ◌/◌, ◌%◌, ◌^◌, ◌<◌, List, [], ◌∷◌, ◌++◌, length, take, drop, slice_index}
 
 -- the n lowest bits of a number, lowest first

@@ -14,6 +14,7 @@ use queue::{Keyed, Queue};
 use refusal::Refusal;
 
 /// A place of a tape: a block with the number of its client.
+// No `PartialEq` and no `Debug`: the queue finds an entry by its key, and none is compared or printed.
 #[derive(Clone, Copy)]
 pub struct TaggedBlock {
     // 0 for no client: with an `Option<ClientNumber>` a read took 1.5 times and a move 2 times as long

@@ -91,7 +91,8 @@ pub fn slot_text(alloc: Global, slot: u16) -> Result<String, AllocError>
     }
 }
 
-// The type of the block before the last of so many.
+// The type of the block before the last of so many. With the count beside, as `packet::write` answers it: a slice cut there would be read at
+// the same number.
 fn end_type(blocks: &[Block], count: usize) -> u8
     requires least { 2 ≤ count }
     requires most { count ≤ length blocks.now }
