@@ -1,22 +1,19 @@
 -- A text cut behind its first newline, and the newline at a text's end.
+use Rattle.std.proofs.lemmas.Option.{cond_some, none-some}
 use Rattle.std.proofs.Common.{◌≡◌, ℕ, suc, ◌+◌, ◌≤◌, Bool, true, false, not, cond, eqb, ltb, List, [], ◌∷◌, ◌++◌, length, take, drop, Some, None, Option, sym, refl, ap, ◌∙◌, arith, Bor, MatchOption, ◌≢◌}
 use Rattle.std.specs.List.{position, position_or_len}
 use Rattle.std.proofs.lemmas.List.{drop_all, take_all}
 use Rattle.std.specs.Option.{option_copied}
 use Rattle.std.proofs.lemmas.Bool.{cond-false, eqb-true, ltb-false}
 use Rattle.form.specs.Cut.{cut_line, ended, longer, prefixed}
-use Rattle.form.proofs.Words.{never, none_from}
+use Rattle.form.proofs.Words.{none_from}
 
 -- whether a byte is a newline
 abbrev pub newline : ℕ → Bool
 newline c = eqb c 10
 
-pub cond_some : {A : Type 0} (t : Bool) (x y : A) → cond t (Some x) None ≡ Some y → (t ≡ true) × (x ≡ y)
-cond_some true x y e = (refl, cc)
-cond_some false x y e = absurd (never e)
-
 cond_none : {A : Type 0} (t : Bool) (x : A) → cond t (Some x) None ≡ None → t ≡ false
-cond_none true x e = absurd (never (sym e))
+cond_none true x e = absurd (none-some _ (sym e))
 cond_none false x e = refl
 
 cut_by : (b : Bool) (x m : ℕ) (xs : List ℕ) (cut : List ℕ × List ℕ) → cut ≡ (take (m + 1) xs, drop (m + 1) xs) → cond b (x ∷ [], xs) (longer x cut) ≡ (take (cond (not b) (1 + m) 0 + 1) (x ∷ xs), drop (cond (not b) (1 + m) 0 + 1) (x ∷ xs))
@@ -50,11 +47,11 @@ ended_push (x ∷ []) z = prefixed_cond (eqb z 10) x []
 ended_push (x ∷ y ∷ xs) z = ap (prefixed x) (ended_push (y ∷ xs) z) ∙ prefixed_cond (eqb z 10) x (y ∷ xs)
 
 prefixed_some : (x : ℕ) (o : Option (List ℕ)) (ys : List ℕ) → prefixed x o ≡ Some ys → (zs : List ℕ) × (o ≡ Some zs) × (ys ≡ x ∷ zs)
-prefixed_some x None ys e = absurd (never e)
+prefixed_some x None ys e = absurd (none-some _ e)
 prefixed_some x (Some zs) ys e = (zs, refl, cc)
 
 pub ended_is : (xs ys : List ℕ) → ended xs ≡ Some ys → xs ≡ ys ++ (10 ∷ [])
-ended_is [] ys e = absurd (never e)
+ended_is [] ys e = absurd (none-some _ e)
 ended_is (x ∷ []) ys e =
     let h = cond_some (eqb x 10) [] ys e in
     ap (λ z. z ∷ []) (eqb-true x 10 h.0) ∙ ap (λ t. t ++ (10 ∷ [])) h.1

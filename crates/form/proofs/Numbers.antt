@@ -1,21 +1,21 @@
 -- Numbers of one to three digits: read exactly as they are written.
+use Rattle.std.proofs.lemmas.Option.{none-some}
 use Rattle.std.proofs.Common.{◌≡◌, ℕ, ◌+◌, ◌-◌, ◌*◌, ◌/◌, ◌%◌, ◌<◌, ◌≤◌, false, cond, eqb, ◌⊎◌, List, [], ◌∷◌, ◌++◌, Some, None, Option, sym, refl, ap, ◌∙◌, subst, inl, inr, ⊎_elim, arith}
 use Rattle.std.proofs.lemmas.Bool.{cond-true, cond-false, cases_lt, ne_eqb, eq-eqb, cases_eq}
 use Rattle.std.proofs.lemmas.Bool.Decides.{nat_tests}
 use Rattle.form.specs.Lease.{decimal}
 use Rattle.form.specs.Marks.{digit}
 use Rattle.form.specs.Form.{bind, leading, longer, extended, number}
-use Rattle.form.proofs.Words.{never}
 
 pub bind_some : {A B : Type 0} (o : Option A) (f : A → Option B) (y : B) → bind o f ≡ Some y → (x : A) × (o ≡ Some x) × (f x ≡ Some y)
-bind_some None f y e = absurd (never e)
+bind_some None f y e = absurd (none-some _ e)
 bind_some (Some x) f y e = (x, refl, e)
 
 pub bind_at : {A B : Type 0} (o : Option A) (f : A → Option B) (x : A) → o ≡ Some x → bind o f ≡ f x
 bind_at o f x e = ap (λ p. bind p f) e
 
 leading_digit : (xs ys : List ℕ) (d : ℕ) → leading xs ≡ Some (d, ys) → (d < 10) × (xs ≡ (48 + d) ∷ ys)
-leading_digit [] ys d e = absurd (never e)
+leading_digit [] ys d e = absurd (none-some _ e)
 leading_digit (x ∷ xs) ys d e = (grind (arith, nat_tests), grind (arith, nat_tests))
 
 leading_reads : (d : ℕ) (ys : List ℕ) → d < 10 → leading ((48 + d) ∷ ys) ≡ Some (d, ys)

@@ -1,11 +1,12 @@
 -- A line is read as a lease exactly if it is that lease written out.
+use Rattle.std.proofs.lemmas.Option.{none-some, same_Some}
 use Rattle.std.proofs.Common.{◌≡◌, ℕ, zero, suc, ◌<◌, ◌≤◌, false, cond, List, [], ◌∷◌, ◌++◌, length, drop, Some, None, codes, Option, sym, refl, ap, ◌∙◌, subst, ⊎_elim, arith}
 use Rattle.std.proofs.lemmas.List.{append-nil, append_assoc, length-append}
 use Rattle.std.proofs.lemmas.Bool.{cond-true, cond-false, cases_Bool}
 use Rattle.std.proofs.lemmas.Slice.Eq.{bytes_eq-Decides}
 use Rattle.form.specs.Lease.{Group, Lease, decimal, group_text, groups_text, lease_text, ShortGroups, SomeGroup, Writable}
 use Rattle.form.specs.Form.{bind, after, number, opening, group, closes, put_before, groups, form}
-use Rattle.form.proofs.Words.{never, after_append, after_is}
+use Rattle.form.proofs.Words.{after_append, after_is}
 use Rattle.form.proofs.Numbers.{bind_some, bind_at, number_is, number_reads}
 
 same_group : (a b : ℕ) (t ys : List ℕ) (g : Group) → ◌≡◌ {A = Option (Group × List ℕ)} (Some (record { first = a; last = b }, t)) (Some (g, ys)) → (a ≡ g.first) × (b ≡ g.last) × (t ≡ ys)
@@ -75,9 +76,6 @@ group_shorter xs ys g e =
     let one : 0 < length (group_text g) = omega arith in
     omega arith
 
-pub some_same : {A : Type 0} {x y : A} → Some x ≡ Some y → x ≡ y
-some_same e = cc
-
 -- groups
 
 pub groups_none : (k : ℕ) (xs : List ℕ) → group xs ≡ None → groups k xs ≡ None
@@ -88,7 +86,7 @@ pub groups_step : (k : ℕ) (xs ys : List ℕ) (g : Group) → group xs ≡ Some
 groups_step k xs ys g e = ap (λ o. bind o (λ p. cond (closes p.1) (Some (p.0 ∷ [])) (put_before p.0 (groups k p.1)))) e
 
 put_before_some : (g : Group) (o : Option (List Group)) (gs : List Group) → put_before g o ≡ Some gs → (hs : List Group) × (o ≡ Some hs) × (gs ≡ g ∷ hs)
-put_before_some g None gs e = absurd (never e)
+put_before_some g None gs e = absurd (none-some _ e)
 put_before_some g (Some hs) gs e = (hs, refl, cc)
 
 GroupsWritten : List ℕ → List Group → Type 0
@@ -107,7 +105,7 @@ groups_next g xs ys gs hs h w e =
     (tt, (h.0, h.1, w.1), h.2 ∙ ap (λ t. group_text g ++ t) w.2 ∙ sym (append_assoc (group_text g) (groups_text hs) (codes ")")))
 
 groups_is : (k : ℕ) (xs : List ℕ) (gs : List Group) → groups k xs ≡ Some gs → GroupsWritten xs gs
-groups_is zero xs gs e = absurd (never e)
+groups_is zero xs gs e = absurd (none-some _ e)
 groups_is (suc k) xs gs e =
     let b = bind_some (group xs) (λ p. cond (closes p.1) (Some (p.0 ∷ [])) (put_before p.0 (groups k p.1))) gs e in
     let g : Group = b.0.0 in
@@ -176,6 +174,6 @@ form_is xs l e =
     let n = number_is o.0 b.0.1 b.0.0 o.2 in
     let q = bind_some (groups (length b.0.1) b.0.1) (λ gs. Some (record { client = b.0.0; groups = gs })) l b.2 in
     let w = groups_is (length b.0.1) b.0.1 q.0 q.1 in
-    let same : ◌≡◌ {A = Lease} (record { client = b.0.0; groups = q.0 }) l = some_same q.2 in
+    let same : ◌≡◌ {A = Lease} (record { client = b.0.0; groups = q.0 }) l = same_Some _ _ q.2 in
     subst (λ m. Writable m × (xs ≡ lease_text m)) same
     ((n.0, w.0, w.1), x ∙ ap (λ t. codes "(client " ++ t) (n.1 ∙ ap (λ t. decimal b.0.0 ++ t) w.2))

@@ -1,5 +1,6 @@
 -- What follows a word: `after` takes off what `++` put in front.
-use Rattle.std.proofs.Common.{◌≡◌, ◌≢◌, ℕ, eqb, List, [], ◌∷◌, ◌++◌, Some, None, Option, MatchOption, Bor, sym, refl, ap, ◌∙◌, ⊎_elim, arith}
+use Rattle.std.proofs.lemmas.Option.{none-some}
+use Rattle.std.proofs.Common.{◌≡◌, ◌≢◌, ℕ, eqb, List, [], ◌∷◌, ◌++◌, Some, None, Option, MatchOption, Bor, sym, refl, ap, ◌∙◌, ⊎_elim}
 use Rattle.std.specs.Option.{ok_or}
 use Rattle.form.specs.Reads.{Reads}
 use Rattle.form.specs.declared.FormError.{FormError}
@@ -11,20 +12,17 @@ pub none_from : {A : Type 0} (o : Option A) → ((x : A) → o ≡ Some x → �
 none_from None h = refl
 none_from (Some x) h = absurd (h x refl)
 
-pub never : {A : Type 0} {x : A} → None ≡ Some x → ⊥
-never e = let z : ◌≡◌ {A = ℕ} 0 1 = cc in omega arith
-
 pub after_append : (ws rest : List ℕ) → after ws (ws ++ rest) ≡ Some rest
 after_append [] rest = refl
 after_append (w ∷ ws) rest = cond-true (eqb w w) (after ws (ws ++ rest)) None (eq-eqb w w refl) ∙ after_append ws rest
 
 pub after_is : (ws xs ys : List ℕ) → after ws xs ≡ Some ys → xs ≡ ws ++ ys
 after_is [] xs ys e = cc
-after_is (w ∷ ws) [] ys e = absurd (never e)
+after_is (w ∷ ws) [] ys e = absurd (none-some _ e)
 after_is (w ∷ ws) (x ∷ xs) ys e =
     ⊎_elim
     (λ t. let i = after_is ws xs ys (sym (cond-true (eqb w x) (after ws xs) None t.0) ∙ e) in let q = t.1 in cc)
-    (λ f. absurd (never (sym (cond-false (eqb w x) (after ws xs) None f.0) ∙ e)))
+    (λ f. absurd (none-some _ (sym (cond-false (eqb w x) (after ws xs) None f.0) ∙ e)))
     (eqb_tells w x)
 
 pub after_none : (ws xs : List ℕ) → ((rest : List ℕ) → xs ≡ ws ++ rest → ⊥) → after ws xs ≡ None

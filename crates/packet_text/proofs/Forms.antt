@@ -1,4 +1,5 @@
 -- A line's parts one after another: read, and written out.
+use Rattle.std.proofs.lemmas.Option.{cond_some}
 use Rattle.std.proofs.Common.{◌≡◌, ℕ, ◌+◌, ◌/◌, ◌%◌, ◌<◌, ◌≤◌, true, cond, ltb, List, [], ◌∷◌, ◌++◌, Some, None, codes, decimal, Option, sym, refl, ap, ◌∙◌, subst, ⊎_elim, arith}
 use Rattle.std.specs.List.{AllByRecursion}
 use Rattle.std.proofs.lemmas.Fmt.{decimal_digit, decimal_step}
@@ -7,7 +8,7 @@ use Rattle.form.specs.Cut.{ended}
 use Rattle.form.specs.Form.{after, bind, number}
 use Rattle.form.specs.Lease as lease
 use Rattle.form.proofs.Numbers.{bind_at, bind_some, number_is, number_reads}
-use Rattle.form.proofs.Cuts.{cond_some, ended_is, ended_push}
+use Rattle.form.proofs.Cuts.{ended_is, ended_push}
 use Rattle.form.proofs.Words.{after_append, after_is}
 use Rattle.packet_text.specs.Hex.{hex_bytes, hex_text, is_hex}
 use Rattle.packet_text.specs.Lines.{LinesRead, OnlyLinesRead, line_parts, line_text}

@@ -1,4 +1,5 @@
 -- The laws of the sheet: lawful leases are accepted, nothing else is, and the first fault refuses.
+use Rattle.std.proofs.lemmas.Option.{same_Some}
 use Rattle.std.proofs.Common.{◌≡◌, ℕ, ◌+◌, ◌-◌, ◌<◌, ◌≤◌, Bool, true, false, ltb, ◌⊎◌, List, [], ◌∷◌, ◌++◌, length, replicate, is_some, is_ok, Some, None, Ok, Err, Option, Result, sym, refl, ap, ◌∙◌, subst, inl, inr, ⊎_elim, arith, MatchResult}
 use Rattle.std.proofs.lemmas.List.{append_assoc, append-nil, get_or-replicate, length_push}
 use Rattle.std.proofs.lemmas.Bool.{cond-true, cond-false, cases_Bool, ltb-true, ltb-false}
@@ -9,7 +10,7 @@ use Rattle.form.specs.Lease.{Lease, Writable, lease_text}
 use Rattle.form.specs.Marks.{LineOf, lines, marked, mark_of}
 use Rattle.form.specs.Form as forms
 use Rattle.form.specs.declared.Mark.{Mark}
-use Rattle.form.proofs.Texts.{form_is, form_reads, some_same}
+use Rattle.form.proofs.Texts.{form_is, form_reads}
 use Rattle.form.proofs.Plain.{lines_rejoined, plain_lease, plain_line, plain_marked, rejoined}
 use Rattle.sheet.specs.Verdict.{chain, judged, leased, line_form, line_verdict, longest, refused, verdict}
 use Rattle.sheet.specs.Laws.{Apart, Breaks, EachLawful, Gives, InRange, Lawful, Leases, Refused, Rule, WritesOut, Stands, cause_of, client, form, groups_of, level_of, marks, order, range, sheet_text, slots, written, written_all}
@@ -45,7 +46,7 @@ bad_mark (x ∷ xs) e =
 -- forms
 
 written_same : (l m : Lease) → Writable l → Writable m → written l ≡ written m → l ≡ m
-written_same l m v w e = some_same (sym (form_reads l v) ∙ ap (λ t. forms.form t.text) e ∙ form_reads m w)
+written_same l m v w e = same_Some _ _ (sym (form_reads l v) ∙ ap (λ t. forms.form t.text) e ∙ form_reads m w)
 
 line_same : (a b : List ℕ) (s t : Bool) → a ≡ b → s ≡ t → ◌≡◌ {A = LineOf} (record { text = a; ended = s }) (record { text = b; ended = t })
 line_same a b s t e f = cc
