@@ -1,13 +1,11 @@
 -- What the claims of a line's groups come to, in words of slots.
+use Rattle.std.proofs.lemmas.Bool.{false≢true}
 use Rattle.std.proofs.Common.{◌≡◌, ℕ, ◌≤◌, Bool, true, false, cond, List, [], ◌∷◌, length, sym, refl, ap, ◌∙◌, subst, inl, inr, ⊎_elim, arith}
 use Rattle.std.proofs.lemmas.Bool.{cond-true, cond-false, cases_Bool}
 use Rattle.form.specs.Lease.{Group}
 use Rattle.sheet.specs.Verdict.{Claim, claimed, claims, fits, give, used}
 use Rattle.sheet.specs.Laws.{Apart, GroupsInRange, HeldBy, Holds}
 use Rattle.sheet.proofs.Held.{at, held_or_not, held_in_range, fits_in_range, in_range_fits, length_give, give_held, give_other, used_some, used_none}
-
-pub false_true : false ≡ true → ⊥
-false_true e = let z : ◌≡◌ {A = ℕ} 0 1 = cc in omega arith
 
 -- the slots of the groups are empty
 abbrev pub Free : List Group → List ℕ → Type 0
@@ -23,7 +21,7 @@ pub record Came (c : ℕ) (gs : List Group) (s r : Claim) : Type 0 where
   pub stays : s.twice ≡ false → Free gs s.entries → Apart gs → r.twice ≡ false
 
 nor : (b t : Bool) → cond b true t ≡ false → (b ≡ false) × (t ≡ false)
-nor true t e = absurd (false_true (sym e))
+nor true t e = absurd (false≢true (sym e))
 nor false t e = (refl, e)
 
 from_nor : (b t : Bool) → b ≡ false → t ≡ false → cond b true t ≡ false
@@ -113,12 +111,12 @@ lawful_in_range c (g ∷ gs) s e =
     let rest = lawful_in_range c gs (claimed c g s) e in
     ⊎_elim
     (λ t. let f = in_range_fits c g t in (f.2, f.3, f.4, rest))
-    (λ t. absurd (false_true (sym (unlawful_stays c gs (claimed c g s) (out_of_range c g s t)) ∙ e)))
+    (λ t. absurd (false≢true (sym (unlawful_stays c gs (claimed c g s) (out_of_range c g s t)) ∙ e)))
     (cases_Bool (fits c g))
 
 pub lawful_client : (c : ℕ) (g : Group) (gs : List Group) (s : Claim) → (claims c (g ∷ gs) s).lawful ≡ true → (1 ≤ c) × (c ≤ 480)
 lawful_client c g gs s e =
     ⊎_elim
     (λ t. let f = in_range_fits c g t in (f.0, f.1))
-    (λ t. absurd (false_true (sym (unlawful_stays c gs (claimed c g s) (out_of_range c g s t)) ∙ e)))
+    (λ t. absurd (false≢true (sym (unlawful_stays c gs (claimed c g s) (out_of_range c g s t)) ∙ e)))
     (cases_Bool (fits c g))

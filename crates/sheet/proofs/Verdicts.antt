@@ -1,4 +1,5 @@
 -- The laws of the sheet: lawful leases are accepted, nothing else is, and the first fault refuses.
+use Rattle.std.proofs.lemmas.Bool.{false≢true}
 use Rattle.std.proofs.lemmas.Option.{same_Some}
 use Rattle.std.proofs.Common.{◌≡◌, ℕ, ◌+◌, ◌-◌, ◌<◌, ◌≤◌, Bool, true, false, ltb, ◌⊎◌, List, [], ◌∷◌, ◌++◌, length, replicate, is_some, is_ok, Some, None, Ok, Err, Option, Result, sym, refl, ap, ◌∙◌, subst, inl, inr, ⊎_elim, arith, MatchResult}
 use Rattle.std.proofs.lemmas.List.{append_assoc, append-nil, get_or-replicate, length_push}
@@ -14,7 +15,6 @@ use Rattle.form.proofs.Texts.{form_is, form_reads}
 use Rattle.form.proofs.Plain.{lines_rejoined, plain_lease, plain_line, plain_marked, rejoined}
 use Rattle.sheet.specs.Verdict.{chain, judged, leased, line_form, line_verdict, longest, refused, verdict}
 use Rattle.sheet.specs.Laws.{Apart, Breaks, EachLawful, Gives, InRange, Lawful, Leases, Refused, Rule, WritesOut, Stands, cause_of, client, form, groups_of, level_of, marks, order, range, sheet_text, slots, written, written_all}
-use Rattle.sheet.proofs.Claiming.{false_true}
 use Rattle.sheet.proofs.Leased.{apart_parts, each_last, groups_append, each_prefix}
 use Rattle.sheet.proofs.Steps.{not_long}
 use Rattle.sheet.proofs.Weighing.{State, Fault, err_ok, ok_err, ok_same, err_same, far, again, clash, lease_fails, lease_ok, lease_reads, writable}
@@ -26,17 +26,17 @@ no_bad_mark [] c e h z = h
 no_bad_mark (x ∷ xs) c e h z =
     ⊎_elim
     (λ t. ⊎_elim
-    (λ q. false_true (ap is_some (sym z ∙ ap mark_of (sym q)) ∙ t))
+    (λ q. false≢true (ap is_some (sym z ∙ ap mark_of (sym q)) ∙ t))
     (λ q. no_bad_mark xs c (sym (cond-true (is_some (mark_of x)) (marked xs) false t) ∙ e) q z) h)
-    (λ t. false_true (sym (cond-false (is_some (mark_of x)) (marked xs) false t) ∙ e))
+    (λ t. false≢true (sym (cond-false (is_some (mark_of x)) (marked xs) false t) ∙ e))
     (cases_Bool (is_some (mark_of x)))
 
 none_of : (o : Option Mark) → is_some o ≡ false → o ≡ None
 none_of None e = refl
-none_of (Some x) e = absurd (false_true (sym e))
+none_of (Some x) e = absurd (false≢true (sym e))
 
 pub bad_mark : (xs : List ℕ) → marked xs ≡ false → (c : ℕ) × Stands c xs × (mark_of c ≡ None)
-bad_mark [] e = absurd (false_true (sym e))
+bad_mark [] e = absurd (false≢true (sym e))
 bad_mark (x ∷ xs) e =
     ⊎_elim
     (λ t. let r = bad_mark xs (sym (cond-true (is_some (mark_of x)) (marked xs) false t) ∙ e) in (r.0, inr r.1, r.2))

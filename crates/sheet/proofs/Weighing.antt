@@ -1,4 +1,5 @@
 -- One line's verdict, in words of leases.
+use Rattle.std.proofs.lemmas.Bool.{false≢true}
 use Rattle.std.proofs.Common.{◌≡◌, ℕ, ◌≤◌, Bool, true, false, cond, ◌⊎◌, List, [], ◌∷◌, ◌++◌, Some, Ok, Err, Result, sym, refl, ap, ◌∙◌, subst, inl, inr, ⊎_elim, arith}
 use Rattle.std.proofs.lemmas.Bool.{cases_Bool}
 use Rattle.refusal.specs.declared.Refusal.TheVariants.{OutOfRange, SlotTwice, ClientTwice}
@@ -8,7 +9,7 @@ use Rattle.form.specs.Lease.{Group, Lease, SomeGroup, Writable, ShortGroups}
 use Rattle.sheet.specs.Verdict.{Claim, claims, leased, named, refused, start}
 use Rattle.sheet.specs.Laws.{Apart, Belongs, Gives, GroupsInRange, InRange, Lawful, Leases, groups_of}
 use Rattle.sheet.proofs.Held.{at, held_or_not, held_in_range}
-use Rattle.sheet.proofs.Claiming.{Came, claims_come, false_true, lawful_client, lawful_in_range}
+use Rattle.sheet.proofs.Claiming.{Came, claims_come, lawful_client, lawful_in_range}
 use Rattle.sheet.proofs.Leased.{apart_join, apart_parts, belongs_held, belongs_none, belongs_other, belongs_taken, crossed, each_last, each_snoc, groups_snoc, lease_is_named, named_has_lease}
 
 -- the leases of the lines before, and the entries that they give
@@ -111,7 +112,7 @@ module _ (ls : List Lease) (es : List ℕ) (state : State ls es) (m : Lease) (n 
       let t = tests_ok s.lawful (named m.client es) s.twice n s.entries out e in
       let r = lawful_range g t.0 in
       let p = taken_by_none r t.2 in
-      let new : Leases m.client ls → ⊥ = λ h. false_true (sym t.1 ∙ lease_is_named ls es state.0 state.1 m.client r.0 r.1 h) in
+      let new : Leases m.client ls → ⊥ = λ h. false≢true (sym t.1 ∙ lease_is_named ls es state.0 state.1 m.client r.0 r.1 h) in
       ((each_snoc ls m state.0.0 g r new, p), subst (Gives (ls ++ (m ∷ []))) t.3 (grown r p))
 
   pub lease_reads : Lawful (ls ++ (m ∷ [])) → (out : List ℕ) × (leased n es (Some m) ≡ Ok out)
@@ -137,9 +138,9 @@ module _ (ls : List Lease) (es : List ℕ) (state : State ls es) (m : Lease) (n 
   unfolding s Failed
   lease_fails g e h =
       ⊎_elim
-      (λ t. far (λ r. false_true (sym t.0 ∙ range_lawful r)) t.1)
+      (λ t. far (λ r. false≢true (sym t.0 ∙ range_lawful r)) t.1)
       (λ t. ⊎_elim
       (λ u. let r = lawful_range g u.0 in again r (named_has_lease ls es state.0 state.1 m.client r.0 r.1 u.1) u.2)
       (λ u. let r = lawful_range g u.0 in
-      clash r (λ a. false_true (sym u.1 ∙ lease_is_named ls es state.0 state.1 m.client r.0 r.1 a)) (λ p. false_true (sym (apart_once r p) ∙ u.2)) u.3) t)
+      clash r (λ a. false≢true (sym u.1 ∙ lease_is_named ls es state.0 state.1 m.client r.0 r.1 a)) (λ p. false≢true (sym (apart_once r p) ∙ u.2)) u.3) t)
       (tests_failed s.lawful (named m.client es) s.twice n s.entries e h)
