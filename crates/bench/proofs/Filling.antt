@@ -7,7 +7,7 @@ use Rattle.block.specs.declared.Block.{Block}
 use Rattle.block.specs.declared.Sync.{Sync}
 use Rattle.block.specs.declared.Sync.TheVariants.{Zeros, Control, Data, Ones}
 use Rattle.block.specs.Syncs.{sync_number}
-use Rattle.payload.specs.declared.Pair.{Pair}
+use Rattle.block.specs.declared.Pair.{Pair}
 use Rattle.payload.specs.Pairs.{sync_of}
 use Rattle.bench.specs.Filled.{block_of, next, pairs_from}
 

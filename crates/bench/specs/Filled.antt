@@ -2,7 +2,7 @@
 use Rattle.std.specs.Prelude.{ℕ, zero, suc, ◌*◌, ◌/◌, ◌%◌, ◌^◌, List, [], ◌∷◌, bit_xor}
 use Rattle.std.specs.Int.{to_le_bytes, w64}
 use Rattle.block.specs.declared.Block.{Block}
-use Rattle.payload.specs.declared.Pair.{Pair}
+use Rattle.block.specs.declared.Pair.{Pair}
 use Rattle.payload.specs.Pairs.{sync_of}
 
 -- the next number, by shifts at 64 bits

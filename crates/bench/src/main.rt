@@ -8,8 +8,8 @@ ghost use Rattle.bench.specs.Filled.{block_of, next, pairs_from};
 ghost use Rattle.bench.specs.Sums.{summed};
 ghost use Rattle.payload.specs.Payloads.{pairs_of, payload_of};
 
-use block::{Block, Sync};
-use payload::{Pair, Payload, pack, unpack};
+use block::{Block, Pair, Sync};
+use payload::{Payload, pack, unpack};
 use std::io;
 use std::time::{Duration, Instant};
 

@@ -49,6 +49,17 @@ impl PartialEq for Block {
     }
 }
 
+// That its blocks are whole, which their types say, is a clause of what reads or writes a pair and no ghost field: that would be owed
+// wherever a byte of a block is written.
+/// Two blocks, which a slot of a frame holds, and which stores take together; the first is sent first.
+#[derive(Clone, Copy, Debug, PartialEq, Eq)]
+pub struct Pair {
+    /// The block that is sent first.
+    pub first: Block,
+    /// The block that is sent second.
+    pub second: Block,
+}
+
 /// What a block is; an end says how many bytes it carries.
 #[derive(Clone, Copy, Debug, PartialEq, Eq)]
 pub enum Class {

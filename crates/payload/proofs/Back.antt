@@ -6,11 +6,11 @@ use Rattle.block.specs.declared.Block.{Block}
 use Rattle.block.specs.declared.Sync.{Sync}
 use Rattle.block.specs.declared.Sync.TheVariants.{Zeros, Control, Data, Ones}
 use Rattle.block.specs.Syncs.{sync_bits}
-use Rattle.block.specs.Whole.{Bytes, Whole}
+use Rattle.block.specs.Whole.{Bytes, Whole, WholePair}
 use Rattle.block.proofs.Blocks.{same_block}
-use Rattle.payload.specs.declared.Pair.{Pair}
+use Rattle.block.specs.declared.Pair.{Pair}
 use Rattle.payload.specs.Bits.{low, bits, value, bytes_of}
-use Rattle.payload.specs.Pairs.{block_bits, block_of, pair_bits, pair_of, sync_of, WholePair}
+use Rattle.payload.specs.Pairs.{block_bits, block_of, pair_bits, pair_of, sync_of}
 use Rattle.payload.proofs.Laws.{length_bits, length_low}
 
 -- each entry is a bit

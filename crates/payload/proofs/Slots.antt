@@ -5,10 +5,10 @@ use Rattle.std.proofs.lemmas.List.FromFn.{get_or-map-range_with_len, length-map-
 use Rattle.std.proofs.lemmas.List.{drop_at, drop-drop, drop-append-le, drop-take, ext_get_or, get_or-set_other, get_or-set_same, flat_map_more, length-set, length-take-le, take_all, take_more, take-append-le, take_at, take-take}
 use Rattle.std.proofs.lemmas.Bool.{cases_order}
 use Rattle.block.specs.declared.Sync.TheVariants.{Zeros}
-use Rattle.block.specs.Whole.{Bytes}
-use Rattle.payload.specs.declared.Pair.{Pair}
+use Rattle.block.specs.Whole.{Bytes, WholePair}
+use Rattle.block.specs.declared.Pair.{Pair}
 use Rattle.payload.specs.Bits.{bits, bytes_of, splice}
-use Rattle.payload.specs.Pairs.{pair_bits, pair_of, WholePair}
+use Rattle.payload.specs.Pairs.{pair_bits, pair_of}
 use Rattle.payload.specs.Payloads.{pair_at, pairs_of, payload_of}
 use Rattle.payload.proofs.Back.{Bits, bits_bits, bytes_back, drop_bits_bits, pair_back, pair_bits_back, pair_length, take_bits}
 use Rattle.payload.proofs.Laws.{length_bits}

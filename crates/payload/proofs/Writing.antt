@@ -7,7 +7,7 @@ use borrow.Rule.Slice.PartMut.{put_mid}
 use Rattle.block.specs.declared.Sync.{Sync}
 use Rattle.block.specs.declared.Sync.TheVariants.{Zeros, Control, Data, Ones}
 use Rattle.block.specs.Syncs.{sync_bits, sync_number}
-use Rattle.payload.specs.declared.Pair.{Pair}
+use Rattle.block.specs.declared.Pair.{Pair}
 use Rattle.payload.specs.Pairs.{block_bits, pair_bits}
 use Rattle.payload.proofs.Reading.{or_shl_62, or_shl_2, sync_low}
 use Rattle.payload.specs.Bits.{low, bits, splice}

@@ -4,8 +4,7 @@ use Rattle.block.specs.declared.Block.{Block}
 use Rattle.block.specs.declared.Sync.{Sync}
 use Rattle.block.specs.declared.Sync.TheVariants.{Zeros, Control, Data, Ones}
 use Rattle.block.specs.Syncs.{sync_bits}
-use Rattle.block.specs.Whole.{Whole}
-use Rattle.payload.specs.declared.Pair.{Pair}
+use Rattle.block.specs.declared.Pair.{Pair}
 use Rattle.payload.specs.Bits.{bits, value, bytes_of}
 
 -- a block: its sync bits, then its eight bytes
@@ -15,10 +14,6 @@ block_bits b = sync_bits b.sync ++ bits b.bytes
 -- a pair: its first block, then its second
 abbrev pub pair_bits : Pair → List ℕ
 pair_bits p = block_bits p.first ++ block_bits p.second
-
--- a pair as a program can hold one
-abbrev pub WholePair : Pair → Type 0
-WholePair p = Whole p.first × Whole p.second
 
 -- the sync that has this number
 abbrev pub sync_of : ℕ → Sync

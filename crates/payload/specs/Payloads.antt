@@ -1,7 +1,7 @@
 -- A frame's payload of 7,920 bytes: slot k holds its bits 132 (k - 1) to 132 k - 1.
 use Rattle.std.specs.Prelude.{ℕ, ◌-◌, ◌*◌, List, map, take, drop}
 use Rattle.std.specs.List.{range_with_len, flat_map}
-use Rattle.payload.specs.declared.Pair.{Pair}
+use Rattle.block.specs.declared.Pair.{Pair}
 use Rattle.payload.specs.Bits.{bits, bytes_of}
 use Rattle.payload.specs.Pairs.{pair_bits, pair_of}
 

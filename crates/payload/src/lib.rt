@@ -4,32 +4,21 @@
 #![tactic(auto)]
 
 ghost use Rattle.std.specs.Prelude.{◌≡◌, ◌+◌, ◌-◌, ◌*◌, ◌<◌, ◌≤◌, ◌⊎◌, ◌++◌, length, take, drop, slice_set};
-ghost use Rattle.block.specs.Whole.{Bytes, Whole};
+ghost use Rattle.block.specs.Whole.{Bytes, Whole, WholePair};
 ghost use Rattle.payload.specs.Bits.{BitsAreNumbered, bits, low, splice};
-ghost use Rattle.payload.specs.Pairs.{block_bits, pair_bits, WholePair};
+ghost use Rattle.payload.specs.Pairs.{block_bits, pair_bits};
 ghost use Rattle.payload.specs.Payloads.{pair_at, pairs_of, payload_of, slot_bit, slot_bits};
 ghost use Rattle.payload.specs.Places.{place_bit};
 ghost use Rattle.std.specs.List.{flat_map};
 
 mod slot_place;
 
-use block::{Block, Sync};
+use block::{Block, Pair, Sync};
 use numbers::SlotNumber;
 use slot_place::{Place, Start};
 
 /// The bytes of a frame that the slots share.
 pub type Payload = [u8; 7920];
-
-// That its blocks are whole, which their types say, is a clause of what reads or writes a pair and no ghost field: that would be owed
-// wherever a byte of a block is written.
-/// What a slot holds; the first block is sent first, and of each block the sync bits before the bytes.
-#[derive(Clone, Copy, Debug, PartialEq, Eq)]
-pub struct Pair {
-    /// The block that is sent first.
-    pub first: Block,
-    /// The block that is sent second.
-    pub second: Block,
-}
 
 // The eight bytes as a number, byte 0 the lowest.
 #[tactic(auto, using(crate::proofs::Reading::word_bits))]
