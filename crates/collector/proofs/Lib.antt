@@ -1,6 +1,7 @@
+pub mod Sizes
+pub mod Extends
 pub mod SameKinds
 pub mod Collections
-pub mod Settles
 pub mod Wholes
 pub mod Only
 pub mod Replies

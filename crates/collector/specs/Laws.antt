@@ -9,7 +9,7 @@ use Rattle.message.specs.Kinds.{blocks_of}
 use Rattle.message.specs.Values.{crc12, filled, lawful}
 use Rattle.message.specs.Written.{message_blocks, parts, reads}
 use Rattle.collector.specs.declared.BlockError.TheVariants.{WrongRemainder}
-use Rattle.assembly.specs.Next.{same_kind}
+use Rattle.collector.specs.Outcomes.{same_kind}
 use Rattle.collector.specs.State.{State}
 use Rattle.collector.specs.Step.{after, is_aps, last_of, new_state, report_of, same, unasked}
 
@@ -65,7 +65,7 @@ pub record Laws : Type 0 where
   -- a collector never loses a place
   pub sized : (s : State) (cs : List Call) → Sized s → Sized (run s cs)
   -- From any state, and with any blocks of basic messages, unknown kinds or the other collection, and questions collected, between its own,
-  -- a message whose blocks have come in a row is found whole at its last block, with its values.
+  -- a message whose blocks have come in a row is found Whole at its last block, with its values.
   pub whole_found : (s : State) (before : List Call) (b : MessageBlock) (k : Kind) (us : List ℕ)
       → Sized s → Completes before b k us → FoundWhole s before b k us
   -- So is what the writer makes of lawful values.
@@ -73,12 +73,12 @@ pub record Laws : Type 0 where
       → Sized s → lawful k vs ≡ true → goes_to (is_aps k) b ≡ true
       → own (is_aps k) (before ++ gave b ∷ []) ≡ front ++ reads (message_blocks k (filled vs))
       → FoundWhole s before b k (filled vs)
-  -- If one to three of its value bits, the remainder's included, were changed on the way, it is found to have a wrong remainder.
+  -- If one to three of its value bits, the remainder's included, were changed on the way, it is found to have a Corrupt remainder.
   pub change_found : (s : State) (before : List Call) (b : MessageBlock) (k : Kind) (us ws : List ℕ)
       → Arrives before b k ws → length us ≡ length ws → crc12 (bits us) ≡ 0
       → 0 < weight (xors (bits us) (bits ws)) → weight (xors (bits us) (bits ws)) ≤ 3
       → (report_of (run s before) b).found ≡ Err WrongRemainder
-  -- A new collector reports no other message whole but a basic one.
+  -- A new collector reports no other message Whole but a basic one.
   pub only_whole : (before : List Call) (b : MessageBlock) (k : Kind)
       → (report_of (run new_state before) b).found ≡ Ok (Some k) → (k ≢ Basic)
       → (us : List ℕ) × Completes before b k us × FoundWhole new_state before b k us

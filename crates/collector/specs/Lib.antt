@@ -1,3 +1,5 @@
+pub mod Content
+pub mod Outcomes
 pub mod State
 pub mod Step
 pub mod Faults

@@ -2,7 +2,7 @@
 use Rattle.std.specs.Prelude.{ℕ, List, Option}
 use Rattle.message.specs.declared.Kind.{Kind}
 use Rattle.message.specs.declared.Kind.TheVariants.{Basic, Aps, Cv, OneDm, TwoDmm, TwoDmr, Cs}
-use Rattle.assembly.specs.Content.{Content}
+use Rattle.collector.specs.Content.{Content}
 
 -- the two collections, the last whole message of each kind, and the time of the question that waits
 pub record State : Type 0 where

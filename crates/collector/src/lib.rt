@@ -10,9 +10,11 @@ ghost use Rattle.collector.specs.Laws.{Laws};
 ghost use Rattle.collector.specs.State.{place_of};
 ghost use Rattle.collector.specs.Step.{after, after_basic, after_part, collection_of, held, kept, last_of, new_state, report_basic, report_of, report_part, unasked};
 
+mod assembly;
 mod question;
 
-use assembly::{AssemblyError, Message, Unfinished};
+pub use assembly::Message;
+use assembly::{Outcome, Unfinished};
 use message::{Kind, MessageBlock};
 pub use question::{Answers, Question};
 use std::fmt;
@@ -193,24 +195,18 @@ impl Collector {
         ensures state { self.new ≡ after_part kind self.old block }
         ensures report { result ≡ report_part kind self.old block }
     {
-        let mut collection = self.collection(kind);
+        let collection = self.collection(kind);
         let broken = block.starts && collection.is_some();
-        let found = assembly::take(&mut collection, kind, block);
-        self.hold(kind, collection);
-        match found {
-            // in two steps: what a nested pattern `Ok(Some(message))` gives could not be cited in the answer
-            Ok(whole) => {
-                let Some(message) = whole else {
-                    return Report::new(broken, Ok(None));
-                };
+        let outcome = assembly::next(collection, kind, block);
+        self.hold(kind, outcome.unfinished());
+        match outcome {
+            Outcome::Broken => Report::new(true, Ok(None)),
+            Outcome::Incomplete(_) => Report::new(broken, Ok(None)),
+            Outcome::Corrupt => Report::new(broken, Err(BlockError::WrongRemainder)),
+            Outcome::Whole(message) => {
                 self.keep(message);
                 Report::new(broken, Ok(Some(message.kind())))
             }
-            Err(AssemblyError::OutOfSequence) => Report::new(true, Ok(None)),
-            Err(AssemblyError::WrongRemainder) => Report::new(
-                broken,
-                Err(BlockError::WrongRemainder),
-            ),
         }
     }
 

@@ -8,5 +8,5 @@ pub record Content : Type 0 where
   pub values : List ℕ
 
 -- value bytes in the memory of the longest message: zeros stand behind them
-abbrev pub stored : List ℕ → List ℕ
-stored vs = vs ++ replicate (34 - length vs) 0
+abbrev pub zero_padded : List ℕ → List ℕ
+zero_padded vs = vs ++ replicate (34 - length vs) 0
