@@ -19,11 +19,11 @@ use Rattle.message.proofs.Pairs.{paired_push, take_two}
 use Rattle.message.proofs.Writes.{lawful_length, some_blocks}
 use Rattle.collector.specs.declared.BlockError.TheVariants.{WrongRemainder}
 use Rattle.collector.specs.Content.{Content}
-use Rattle.collector.specs.State.{State, place_of}
+use Rattle.collector.specs.State.{State, last_of, place_of}
 use Rattle.collector.specs.declared.assembly.Outcome.{Outcome}
 use Rattle.collector.specs.declared.assembly.Outcome.TheVariants.{Broken, Corrupt, Whole}
 use Rattle.collector.specs.Outcomes.{continued_outcome, extended_outcome, marked_outcome, next_outcome, same_kind, tested_outcome, unfinished_of}
-use Rattle.collector.specs.Step.{after, after_kind, after_part, after_basic, found_of, is_aps, last_of, report_basic, report_kind, report_of, report_part, settled}
+use Rattle.collector.specs.Step.{after, after_kind, after_part, after_basic, found_of, is_aps, report_basic, report_kind, report_of, report_part, settled}
 use Rattle.collector.specs.Laws.{Call, gave, goes_kind, goes_to, own, run, Sized, Arrives, Completes, FoundWhole}
 use Rattle.collector.proofs.Sizes.{few_blocks}
 use Rattle.collector.proofs.Extends.{last_test}

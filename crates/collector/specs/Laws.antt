@@ -10,8 +10,8 @@ use Rattle.message.specs.Values.{crc12, filled, lawful}
 use Rattle.message.specs.Written.{message_blocks, parts, reads}
 use Rattle.collector.specs.declared.BlockError.TheVariants.{WrongRemainder}
 use Rattle.collector.specs.Outcomes.{same_kind}
-use Rattle.collector.specs.State.{State}
-use Rattle.collector.specs.Step.{after, is_aps, last_of, new_state, report_of, same, unasked}
+use Rattle.collector.specs.State.{State, last_of}
+use Rattle.collector.specs.Step.{after, is_aps, new_state, report_of, same, unasked}
 
 -- whether a block goes to the collection of protection messages (true) or to that of low priority ones (false);
 -- basic messages and unknown kinds go to neither

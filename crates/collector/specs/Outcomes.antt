@@ -1,11 +1,11 @@
 -- What a block makes of the message that its collection holds.
-use Rattle.std.specs.Prelude.{◌*◌, Bool, true, false, if◌then◌else◌, [], ◌∷◌, ◌++◌, length, Some, None, Option, ◌==◌}
+use Rattle.std.specs.Prelude.{◌≡◌, ◌*◌, Bool, true, false, if◌then◌else◌, [], ◌∷◌, ◌++◌, length, Some, None, Option, ◌==◌}
 use Rattle.bits.specs.Bits.{bits}
 use Rattle.message.specs.declared.Kind.{Kind}
 use Rattle.message.specs.declared.MessageBlock.{MessageBlock}
 use Rattle.message.specs.Kinds.{blocks_of, code_of}
 use Rattle.message.specs.Values.{crc12}
-use Rattle.collector.specs.Content.{Content}
+use Rattle.collector.specs.Content.{Content, IsPart}
 use Rattle.collector.specs.declared.assembly.Outcome.{Outcome}
 use Rattle.collector.specs.declared.assembly.Outcome.TheVariants.{Broken, Incomplete, Corrupt, Whole}
 
@@ -51,3 +51,10 @@ continued_outcome k (Some u) b = if same_kind u.kind k then extended_outcome u b
 -- with a start mark it begins its own
 abbrev pub next_outcome : Kind → Option Content → MessageBlock → Outcome
 next_outcome k c b = if b.starts then extended_outcome (empty_message k) b else continued_outcome k c b
+
+-- a message of which more blocks are to come lacks blocks, and a whole one does not
+abbrev pub IsSized : Outcome → Type 0
+IsSized Broken = Unit {0}
+IsSized (Incomplete u) = IsPart u
+IsSized Corrupt = Unit {0}
+IsSized (Whole u) = length u.values ≡ 2 * blocks_of u.kind

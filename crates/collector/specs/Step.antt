@@ -1,5 +1,5 @@
 -- What a collector does at a message block, and what it reports.
-use Rattle.std.specs.Prelude.{Bool, true, false, if◌then◌else◌, not, ◌&&◌, ◌||◌, [], ◌∷◌, take, replicate, is_some, Some, None, Ok, Err, Option, Result, slice_index_or, slice_set}
+use Rattle.std.specs.Prelude.{Bool, true, false, if◌then◌else◌, not, ◌&&◌, ◌||◌, [], ◌∷◌, take, replicate, is_some, Some, None, Ok, Err, Option, Result, slice_set}
 use Rattle.message.specs.declared.Kind.{Kind}
 use Rattle.message.specs.declared.Kind.TheVariants.{Basic, Aps, TwoDmm}
 use Rattle.message.specs.declared.MessageBlock.{MessageBlock}
@@ -99,10 +99,6 @@ report_kind (Some k) s b = if same_kind k Basic then report_basic b else report_
 
 abbrev pub report_of : State → MessageBlock → Report
 report_of s b = report_kind b.kind s b
-
--- the last whole message of a kind
-abbrev pub last_of : Kind → State → Option Content
-last_of k s = slice_index_or s.kept (place_of k) None
 
 -- once the question has been handed out, none waits
 abbrev pub unasked : State → State

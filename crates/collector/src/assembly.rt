@@ -1,10 +1,11 @@
 //! A path message as it is put together from its blocks, one after the other.
 //! The end mark must stand on the last block of the kind and on no other, and the whole message must leave the remainder 0.
 //! Main promise: `next` answers exactly what the definition `next_outcome` makes of the message so far and the block.
-ghost use Rattle.std.specs.Prelude.{◌≡◌, ◌*◌, [], ◌∷◌, length, take};
+ghost use Rattle.std.specs.Prelude.{◌≡◌, ◌*◌, [], ◌∷◌, IfSome, length, take};
 ghost use Rattle.message.specs.Kinds.{blocks_of};
 ghost use Rattle.message.specs.declared.Kind.TheVariants.{Basic, TwoDmm};
-ghost use Rattle.collector.specs.Outcomes.{empty_message, extended_outcome, next_outcome, tested_outcome, unfinished_of};
+ghost use Rattle.collector.specs.Content.{IsPart};
+ghost use Rattle.collector.specs.Outcomes.{IsSized, empty_message, extended_outcome, next_outcome, tested_outcome, unfinished_of};
 
 use crc::Generator;
 use message::{Kind, MessageBlock};
@@ -78,7 +79,9 @@ pub(crate) enum Outcome {
 impl Outcome {
     // What is collected further.
     pub(crate) fn unfinished(&self) -> Option<Unfinished>
-        ensures { result ≡ unfinished_of self.now }
+        requires { IsSized self.now }
+        ensures unfinished { result ≡ unfinished_of self.now }
+        ensures part { IfSome result IsPart }
     {
         match self {
             Outcome::Incomplete(unfinished) => Some(*unfinished),
@@ -101,7 +104,8 @@ impl Unfinished {
 
     // The message with one more block; the end mark must stand on its last block and on no other.
     fn extend(self, block: MessageBlock) -> Outcome
-        ensures { result ≡ extended_outcome self block }
+        ensures outcome { result ≡ extended_outcome self block }
+        ensures sized { IsSized result }
     {
         let kind = self.kind;
         let blocks = self.blocks + 1;
@@ -178,7 +182,8 @@ impl Message {
 
 // Takes a block into its collection: it begins a message, or goes on with the one that is collected, if that is of its kind.
 pub(crate) fn next(collection: Option<Unfinished>, kind: Kind, block: MessageBlock) -> Outcome
-    ensures { result ≡ next_outcome kind collection block }
+    ensures outcome { result ≡ next_outcome kind collection block }
+    ensures sized { IsSized result }
 {
     if block.starts {
         return Unfinished::begin(kind).extend(block);

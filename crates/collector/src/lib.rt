@@ -3,12 +3,13 @@
 //! Main promise: `take` does and reports exactly what the definitions `after` and `report_of` say, whose laws are in `Laws`.
 #![tactic(auto)]
 
-ghost use Rattle.std.specs.Prelude.{◌≡◌, IfSome, IsFalse, Some};
+ghost use Rattle.std.specs.Prelude.{◌≡◌, IfSome, IsFalse, Some, length};
 ghost use Rattle.std.specs.Option.{option_map};
 ghost use Rattle.collector.specs.Faults.{fault_from, fault_number, fault_text, faults_of};
 ghost use Rattle.collector.specs.Laws.{Laws};
-ghost use Rattle.collector.specs.State.{place_of};
-ghost use Rattle.collector.specs.Step.{after, after_basic, after_part, collection_of, held, kept, last_of, new_state, report_basic, report_of, report_part, unasked};
+ghost use Rattle.collector.specs.Content.{IsPart};
+ghost use Rattle.collector.specs.State.{IsFull, Sound, last_of, place_of};
+ghost use Rattle.collector.specs.Step.{after, after_basic, after_part, collection_of, held, kept, new_state, report_basic, report_of, report_part, unasked};
 
 mod assembly;
 mod question;
@@ -72,11 +73,13 @@ pub struct Collector {
 }
 
 impl Model for Collector {
-    ghost use Rattle.collector.specs.State.{State};
+    ghost use Rattle.collector.specs.State.{Sound, State};
 
     ghost Value = { State };
 
     ghost view = { λ c. record { aps = c.aps; low = c.low; kept = c.kept; question = c.question } };
+
+    ghost invariant = { λ c. Sound (record { aps = c.aps; low = c.low; kept = c.kept; question = c.question }) };
 }
 
 // The place of a kind among the messages kept; an array by kind, since there is no heap here for a map.
@@ -138,6 +141,7 @@ impl Collector {
     /// A collector to which no block has come.
     pub fn new() -> Collector
         ensures state { result ≡ new_state }
+        ensures sound { Sound result }
         ensures laws { Laws }
     {
         Collector {
@@ -152,7 +156,10 @@ impl Collector {
     pub fn take(&mut self, block: MessageBlock) -> Report
         ensures state { self.new ≡ after self.old block }
         ensures report { result ≡ report_of self.old block }
+        ensures sound { Sound self.old }
     {
+        // names a field, so that what holds of every collector is known here
+        let _ = &self.question;
         match block.kind {
             None => Report::new(false, Err(BlockError::UnknownCode)),
             Some(Kind::Basic) => self.take_basic(block),
@@ -162,7 +169,9 @@ impl Collector {
 
     /// The last whole message of a kind.
     pub fn last(&self, kind: Kind) -> Option<Message>
-        ensures { result ≡ last_of kind self.now }
+        ensures last { result ≡ last_of kind self.now }
+        ensures full { IfSome result (IsFull kind) }
+        ensures sound { Sound self.now }
     {
         let index = place(kind);
         self.kept[index]
@@ -171,8 +180,10 @@ impl Collector {
     /// Hands out the question that waits, if one does. It is still to be answered or declined.
     pub fn collect(&mut self) -> Option<Question>
         ensures question { option_map (λ q. q.time) result ≡ self.old.question }
+        ensures long { IfSome result (λ q. length q.time ≡ 8) }
         ensures open { IfSome result (λ q. IsFalse q.settled) }
         ensures state { self.new ≡ unasked self.old }
+        ensures sound { Sound self.old }
     {
         let time = self.question.take()?;
         Some(Question::ask(time))
@@ -221,6 +232,7 @@ impl Collector {
     }
 
     fn hold(&mut self, kind: Kind, unfinished: Option<Unfinished>)
+        requires { IfSome unfinished IsPart }
         ensures { self.new ≡ held kind unfinished self.old }
     {
         if kind == Kind::Aps {
@@ -232,6 +244,7 @@ impl Collector {
 
     // Keeps a whole message as the last of its kind; one of two-way delay waits as a question too.
     fn keep(&mut self, message: Message)
+        requires { IsFull message.kind message }
         ensures { self.new ≡ kept message self.old }
     {
         let kind = message.kind();
