@@ -1,16 +1,15 @@
 -- One collection of a collector at a time: what a block does to it depends on its own blocks alone.
 use Rattle.std.proofs.Common.{◌≡◌, Bool, true, false, cond, List, [], ◌∷◌, ◌++◌, Some, None, Option, refl, ap, ◌∙◌}
-use Rattle.std.proofs.lemmas.List.{length-set}
 use Rattle.message.specs.declared.Kind.{Kind}
 use Rattle.message.specs.declared.Kind.TheVariants.{Basic, Aps, Cv, OneDm, TwoDmm, TwoDmr, Cs}
 use Rattle.message.specs.declared.MessageBlock.{MessageBlock}
 use Rattle.collector.specs.Content.{Content}
-use Rattle.collector.specs.State.{State, place_of}
+use Rattle.collector.specs.State.{State}
 use Rattle.collector.specs.declared.assembly.Outcome.{Outcome}
 use Rattle.collector.specs.declared.assembly.Outcome.TheVariants.{Broken, Incomplete, Corrupt, Whole}
 use Rattle.collector.specs.Outcomes.{next_outcome, same_kind, unfinished_of}
-use Rattle.collector.specs.Step.{after, after_kind, after_part, after_basic, collection_of, is_aps, kept, one_mark, basic_content, same, settled, unasked}
-use Rattle.collector.specs.Laws.{Call, gave, asked, goes_kind, goes_to, own, run, Sized}
+use Rattle.collector.specs.Step.{after, after_kind, after_part, collection_of, is_aps, kept, one_mark, basic_content, same, settled, unasked}
+use Rattle.collector.specs.Runs.{Call, gave, asked, goes_kind, goes_to, own, run}
 
 abbrev pub coll : Bool → State → Option Content
 coll aps s = cond aps s.aps s.low
@@ -109,27 +108,3 @@ pub own_asked : (g : Bool) (cs : List Call) → own g (cs ++ asked ∷ []) ≡ o
 own_asked g [] = refl
 own_asked g (asked ∷ cs) = own_asked g cs
 own_asked g (gave x ∷ cs) = ap (λ (l : List MessageBlock). cond (goes_to g x) (x ∷ l) l) (own_asked g cs)
-
--- there is a place for each kind, always
-sized_settled : (k : Kind) (o : Outcome) (s : State) → Sized s → Sized (settled k o s)
-sized_settled k Broken s h = h
-sized_settled k (Incomplete u) s h = h
-sized_settled k Corrupt s h = h
-sized_settled k (Whole u) s h = length-set s.kept (place_of u.kind) (Some u) ∙ h
-
-sized_basic : (s : State) (b : MessageBlock) (t : Bool) → Sized s → Sized (cond t (kept (basic_content b) s) s)
-sized_basic s b true h = length-set s.kept 0 (Some (basic_content b)) ∙ h
-sized_basic s b false h = h
-
-sized_kind : (o : Option Kind) (s : State) (b : MessageBlock) → Sized s → Sized (after_kind o s b)
-sized_kind None s b h = h
-sized_kind (Some k) s b h = go (same_kind k Basic)
-  where
-    go : (t : Bool) → Sized (cond t (after_basic s b) (after_part k s b))
-    go true = sized_basic s b (one_mark b) h
-    go false = sized_settled k (next_outcome k (collection_of k s) b) s h
-
-pub sized_run : (s : State) (cs : List Call) → Sized s → Sized (run s cs)
-sized_run s [] h = h
-sized_run s (gave b ∷ cs) h = sized_run (after s b) cs (sized_kind b.kind s b h)
-sized_run s (asked ∷ cs) h = sized_run (unasked s) cs h

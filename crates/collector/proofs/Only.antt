@@ -1,15 +1,16 @@
 -- Nothing else is found whole: what a collection holds has come in a row.
-use Rattle.std.proofs.Common.{Ok, ◌≡◌, ℕ, ◌+◌, ◌*◌, ◌≤◌, Bool, true, false, cond, not, ◌&&◌, eqb, List, [], ◌∷◌, ◌++◌, length, Some, None, Option, sym, refl, ap, ◌∙◌, subst, ap₂, append_assoc, arith}
+use Rattle.std.proofs.Common.{Ok, ◌≡◌, ℕ, ◌+◌, ◌*◌, ◌<◌, ◌≤◌, Bool, true, false, cond, not, ◌&&◌, eqb, List, [], ◌∷◌, ◌++◌, length, Some, None, Option, sym, refl, ap, ◌∙◌, subst, ap₂, append_assoc, arith}
 use Rattle.std.proofs.lemmas.List.{append-nil, length-append}
-use Rattle.std.proofs.lemmas.Bool.{eqb-true, ne_eqb}
+use Rattle.std.proofs.lemmas.Bool.{eqb-true, eqb-false, ne_eqb}
 use Rattle.bits.specs.Bits.{bits}
 use Rattle.message.specs.declared.Kind.{Kind}
-use Rattle.message.specs.declared.Kind.TheVariants.{Basic, Aps, Cv, OneDm, TwoDmm, TwoDmr, Cs}
+use Rattle.message.specs.declared.Kind.TheVariants.{Basic}
 use Rattle.message.specs.declared.MessageBlock.{MessageBlock}
-use Rattle.message.specs.Kinds.{blocks_of, code_of, kind_of}
+use Rattle.message.specs.Kinds.{blocks_of}
 use Rattle.message.specs.Blocks.{said}
 use Rattle.message.specs.Values.{crc12}
 use Rattle.message.specs.Written.{parts}
+use Rattle.message.proofs.Writes.{some_blocks}
 use Rattle.collector.specs.declared.Report.{Report}
 use Rattle.collector.specs.Content.{Content}
 use Rattle.collector.specs.State.{State}
@@ -17,25 +18,13 @@ use Rattle.collector.specs.declared.assembly.Outcome.{Outcome}
 use Rattle.collector.specs.declared.assembly.Outcome.TheVariants.{Broken, Incomplete, Corrupt, Whole}
 use Rattle.collector.specs.Outcomes.{continued_outcome, extended_outcome, with_block, marked_outcome, next_outcome, same_kind, unfinished_of}
 use Rattle.collector.specs.Step.{after, found_of, is_aps, new_state, one_mark, report_basic, report_kind, report_of, report_part, same, unasked}
-use Rattle.collector.specs.Laws.{Call, gave, asked, goes_kind, goes_to, own, run, Arrives, Completes, FoundWhole, Laws}
+use Rattle.collector.specs.Runs.{Call, gave, asked, goes_kind, goes_to, own, run, Arrives, Completes}
+use Rattle.collector.specs.Laws.{FoundWhole, Laws}
 use Rattle.collector.proofs.Extends.{last_test}
-use Rattle.collector.proofs.Collections.{coll, advance, advance_kind, advance_other, coll_kind, own_push, own_asked, sized_run}
+use Rattle.collector.proofs.Collections.{coll, advance, advance_kind, advance_other, coll_kind, own_push, own_asked}
+use Rattle.collector.proofs.SameKinds.{one_kind}
+use Rattle.collector.proofs.Sounds.{sound_new, sound_run}
 use Rattle.collector.proofs.Wholes.{part_at, content, parts_push, change_found, whole_found, written_found}
-
--- kinds with one code are one kind
-pub one_kind : (a b : Kind) → same_kind a b ≡ true → a ≡ b
-one_kind a b e =
-    let s : Some a ≡ Some b = sym (named a) ∙ ap kind_of (eqb-true (code_of a) (code_of b) e) ∙ named b in
-    cc
-  where
-    named : (k : Kind) → kind_of (code_of k) ≡ Some k
-    named Basic = refl
-    named Aps = refl
-    named Cv = refl
-    named OneDm = refl
-    named TwoDmm = refl
-    named TwoDmr = refl
-    named Cs = refl
 
 -- some blocks end with the first i blocks of a message
 pub record Ends (h : List MessageBlock) (u : Content) (i : ℕ) : Type 0 where
@@ -46,13 +35,13 @@ pub record Ends (h : List MessageBlock) (u : Content) (i : ℕ) : Type 0 where
 -- what a collection holds has come
 abbrev pub Came : List MessageBlock → Option Content → Type 0
 Came h None = Unit {0}
-Came h (Some u) = (i : ℕ) × (1 ≤ i) × Ends h u i
+Came h (Some u) = (i : ℕ) × (1 ≤ i) × Ends h u i × (i < blocks_of u.kind)
 
 -- and what is made of it at a block
 abbrev pub Makes : List MessageBlock → Option Kind → Outcome → Type 0
 Makes h o Broken = Unit {0}
 Makes h o (Incomplete u) = Came h (Some u)
-Makes h o Corrupt = Unit {0}
+Makes h o Corrupt = (u : Content) × Ends h u (blocks_of u.kind) × (crc12 (bits u.values) ≡ 0 → ⊥) × (o ≡ Some u.kind)
 Makes h o (Whole u) = Ends h u (blocks_of u.kind) × (crc12 (bits u.values) ≡ 0) × (o ≡ Some u.kind)
 
 -- a block behind the first i blocks of its message, with the marks of its place
@@ -71,24 +60,26 @@ behind h u i b E e s t =
       long = length-append u.values (b.first ∷ b.second ∷ []) ∙ (let z : length u.values + 2 ≡ 2 * (i + 1) = omega (arith, E.long) in z);
     }
 
-judged_makes : (h : List MessageBlock) (u : Content) (i : ℕ) (b : MessageBlock) (e l : Bool) → Ends h u i → b.kind ≡ Some u.kind
+judged_makes : (h : List MessageBlock) (u : Content) (i : ℕ) (b : MessageBlock) (e l : Bool) → Ends h u i → i < blocks_of u.kind → b.kind ≡ Some u.kind
     → b.starts ≡ eqb i 0 → b.ends ≡ e → eqb (i + 1) (blocks_of u.kind) ≡ l → Makes (h ++ b ∷ []) b.kind (marked_outcome (with_block u b) e l)
-judged_makes h u i b true true E k s p q = go (eqb (crc12 (bits (with_block u b).values)) 0) refl
+judged_makes h u i b true true E f k s p q = go (eqb (crc12 (bits (with_block u b).values)) 0) refl
   where
     here : Ends (h ++ b ∷ []) (with_block u b) (blocks_of u.kind)
     here = subst (Ends (h ++ b ∷ []) (with_block u b)) (eqb-true (i + 1) (blocks_of u.kind) q) (behind h u i b E k s (p ∙ sym q))
 
     go : (t : Bool) → eqb (crc12 (bits (with_block u b).values)) 0 ≡ t → Makes (h ++ b ∷ []) b.kind (cond t (Whole (with_block u b)) Corrupt)
     go true r = (here, eqb-true (crc12 (bits (with_block u b).values)) 0 r, k)
-    go false r = tt
-judged_makes h u i b true false E k s p q = tt
-judged_makes h u i b false true E k s p q = tt
-judged_makes h u i b false false E k s p q = (i + 1, omega arith, behind h u i b E k s (p ∙ sym q))
+    go false r = (with_block u b, here, eqb-false (crc12 (bits (with_block u b).values)) 0 r, k)
+judged_makes h u i b true false E f k s p q = tt
+judged_makes h u i b false true E f k s p q = tt
+judged_makes h u i b false false E f k s p q =
+    let other : i + 1 ≡ blocks_of u.kind → ⊥ = eqb-false (i + 1) (blocks_of u.kind) q in
+    (i + 1, omega arith, behind h u i b E k s (p ∙ sym q), omega arith)
 
-extended_makes : (h : List MessageBlock) (u : Content) (i : ℕ) (b : MessageBlock) → Ends h u i → b.kind ≡ Some u.kind
+extended_makes : (h : List MessageBlock) (u : Content) (i : ℕ) (b : MessageBlock) → Ends h u i → i < blocks_of u.kind → b.kind ≡ Some u.kind
     → b.starts ≡ eqb i 0 → Makes (h ++ b ∷ []) b.kind (extended_outcome u b)
-extended_makes h u i b E k s =
-    judged_makes h u i b b.ends (eqb (length (with_block u b).values) (2 * blocks_of u.kind)) E k s refl
+extended_makes h u i b E f k s =
+    judged_makes h u i b b.ends (eqb (length (with_block u b).values) (2 * blocks_of u.kind)) E f k s refl
     (sym (last_test u.values i (blocks_of u.kind) b.first b.second E.long))
 
 continued_makes : (h : List MessageBlock) (k : Kind) (c : Option Content) (b : MessageBlock) → Came h c → b.kind ≡ Some k
@@ -99,7 +90,7 @@ continued_makes h k (Some u) b C e s = go (same_kind u.kind k) refl
     go : (t : Bool) → same_kind u.kind k ≡ t → Makes (h ++ b ∷ []) b.kind (cond t (extended_outcome u b) Broken)
     go false r = tt
     go true r =
-        extended_makes h u C.0 b C.2 (e ∙ ap (λ (x : Kind). Some x) (sym (one_kind u.kind k r)))
+        extended_makes h u C.0 b C.2 C.3 (e ∙ ap (λ (x : Kind). Some x) (sym (one_kind u.kind k r)))
         (s ∙ sym (ne_eqb C.0 0 (λ (z : C.0 ≡ 0). omega (arith, C.1))))
 
 pub next_makes : (h : List MessageBlock) (k : Kind) (c : Option Content) (b : MessageBlock) → Came h c → b.kind ≡ Some k
@@ -110,7 +101,7 @@ next_makes h k c b C e = go b.starts refl
     none = record { front = h; is = sym (append-nil h); long = refl }
 
     go : (t : Bool) → b.starts ≡ t → Makes (h ++ b ∷ []) b.kind (cond t (extended_outcome (content k []) b) (continued_outcome k c b))
-    go true s = extended_makes h (content k []) 0 b none e s
+    go true s = extended_makes h (content k []) 0 b none (some_blocks k) e s
     go false s = continued_makes h k c b C e s
 
 came_left : (h : List MessageBlock) (κ : Option Kind) (o : Outcome) → Makes h κ o → Came h (unfinished_of o)
@@ -209,7 +200,7 @@ pub only_whole : (before : List Call) (b : MessageBlock) (k : Kind)
     → (us : List ℕ) × Completes before b k us × FoundWhole new_state before b k us
 only_whole before b k w h =
     let c = found_kind before b k b.kind refl w h in
-    (c.0, c.1, whole_found new_state before b k c.0 refl c.1)
+    (c.0, c.1, whole_found new_state before b k c.0 sound_new c.1)
 
 pub laws : Laws
-laws = record { sized = sized_run; whole_found = whole_found; written_found = written_found; change_found = change_found; only_whole = only_whole }
+laws = record { sound = sound_run; whole_found = whole_found; written_found = written_found; change_found = change_found; only_whole = only_whole }

@@ -8,7 +8,7 @@ use Rattle.crc.proofs.Detect.{detects}
 use Rattle.crc.proofs.Generators.{twelve}
 use Rattle.bits.proofs.Places.{length_bits}
 use Rattle.message.specs.declared.Kind.{Kind}
-use Rattle.message.specs.declared.Kind.TheVariants.{Basic, Aps, Cv, OneDm, TwoDmm, TwoDmr, Cs}
+use Rattle.message.specs.declared.Kind.TheVariants.{Basic, TwoDmm}
 use Rattle.message.specs.declared.MessageBlock.{MessageBlock}
 use Rattle.message.specs.Kinds.{blocks_of}
 use Rattle.message.specs.Blocks.{said}
@@ -19,16 +19,18 @@ use Rattle.message.proofs.Pairs.{paired_push, take_two}
 use Rattle.message.proofs.Writes.{lawful_length, some_blocks}
 use Rattle.collector.specs.declared.BlockError.TheVariants.{WrongRemainder}
 use Rattle.collector.specs.Content.{Content}
-use Rattle.collector.specs.State.{State, last_of, place_of}
+use Rattle.collector.specs.State.{State, Sound, last_of, place_of}
 use Rattle.collector.specs.declared.assembly.Outcome.{Outcome}
 use Rattle.collector.specs.declared.assembly.Outcome.TheVariants.{Broken, Corrupt, Whole}
 use Rattle.collector.specs.Outcomes.{continued_outcome, extended_outcome, marked_outcome, next_outcome, same_kind, tested_outcome, unfinished_of}
 use Rattle.collector.specs.Step.{after, after_kind, after_part, after_basic, found_of, is_aps, report_basic, report_kind, report_of, report_part, settled}
-use Rattle.collector.specs.Laws.{Call, gave, goes_kind, goes_to, own, run, Sized, Arrives, Completes, FoundWhole}
+use Rattle.collector.specs.Runs.{Call, gave, goes_kind, goes_to, own, run, Arrives, Completes}
+use Rattle.collector.specs.Laws.{FoundWhole}
 use Rattle.collector.proofs.Sizes.{few_blocks}
 use Rattle.collector.proofs.Extends.{last_test}
 use Rattle.collector.proofs.SameKinds.{same_true}
-use Rattle.collector.proofs.Collections.{coll, advance, advances, coll_run, advances_append, run_append, own_push, sized_run}
+use Rattle.collector.proofs.Collections.{coll, advance, advances, coll_run, advances_append, run_append, own_push}
+use Rattle.collector.proofs.Sounds.{place_below, sound_run}
 
 -- the block at place i of a message
 abbrev pub part_at : Kind → ℕ → ℕ → ℕ → MessageBlock
@@ -83,17 +85,8 @@ collected g k us c e l (suc j) lo hi =
 pub not_basic : (g : Bool) (k : Kind) → goes_kind g (Some k) ≡ true → same_kind k Basic ≡ false
 not_basic g k e = not-true (same_kind k Basic) (and_parts (not (same_kind k Basic)) _ e).0
 
-pub place_below : (k : Kind) → place_of k < 7
-place_below Basic = omega arith
-place_below Aps = omega arith
-place_below Cv = omega arith
-place_below OneDm = omega arith
-place_below TwoDmm = omega arith
-place_below TwoDmr = omega arith
-place_below Cs = omega arith
-
 -- a block that makes a message whole
-pub whole_part : (s : State) (b : MessageBlock) (k : Kind) (us : List ℕ) → Sized s → b.kind ≡ Some k → same_kind k Basic ≡ false
+pub whole_part : (s : State) (b : MessageBlock) (k : Kind) (us : List ℕ) → Sound s → b.kind ≡ Some k → same_kind k Basic ≡ false
     → next_outcome k (coll (is_aps k) s) b ≡ Whole (content k us)
     → ((report_of s b).found ≡ Ok (Some k)) × (last_of k (after s b) ≡ Some (content k us)) × (k ≡ TwoDmm → (after s b).question ≡ Some (take 8 us))
 whole_part s b k us h e f o = (
@@ -103,7 +96,7 @@ whole_part s b k us h e f o = (
   ap (λ (x : Option Kind). last_of k (after_kind x s b)) e
       ∙ ap (λ (t : Bool). last_of k (cond t (after_basic s b) (after_part k s b))) f
       ∙ ap (λ (x : Outcome). last_of k (settled k x s)) o
-      ∙ get_or-set_same s.kept (place_of k) (Some (content k us)) None (omega (arith, place_below k)),
+      ∙ get_or-set_same s.kept (place_of k) (Some (content k us)) None (omega (arith, place_below k, h.places)),
   λ d. ap (λ (x : Option Kind). (after_kind x s b).question) e
       ∙ ap (λ (t : Bool). (cond t (after_basic s b) (after_part k s b)).question) f
       ∙ ap (λ (x : Outcome). (settled k x s).question) o
@@ -150,12 +143,12 @@ arrived s before b k us h =
     }
 
 pub whole_found : (s : State) (before : List Call) (b : MessageBlock) (k : Kind) (us : List ℕ)
-    → Sized s → Completes before b k us → FoundWhole s before b k us
+    → Sound s → Completes before b k us → FoundWhole s before b k us
 whole_found s before b k us sized h =
     let T : Tested (run s before) b k us = arrived s before b k us h.0 in
     let next : next_outcome k (coll (is_aps k) (run s before)) b ≡ Whole (content k us)
     = T.next ∙ ap (λ (t : Bool). cond t (Whole (content k us)) Corrupt) (eq-eqb (crc12 (bits us)) 0 h.1) in
-    let both = whole_part (run s before) b k us (sized_run s before sized) T.kind T.other next in
+    let both = whole_part (run s before) b k us (sound_run s before sized) T.kind T.other next in
     let at : run s (before ++ gave b ∷ []) ≡ after (run s before) b = run_append s before (gave b ∷ []) in
     record {
       found = both.0;
@@ -179,7 +172,7 @@ change_found s before b k us ws h l e lo hi =
     ∙ ap found_of (T.next ∙ ap (λ (t : Bool). cond t (Whole (content k ws)) Corrupt) (ne_eqb (crc12 (bits ws)) 0 bad))
 
 pub written_found : (s : State) (before : List Call) (front : List MessageBlock) (b : MessageBlock) (k : Kind) (vs : List ℕ)
-    → Sized s → lawful k vs ≡ true → goes_to (is_aps k) b ≡ true
+    → Sound s → lawful k vs ≡ true → goes_to (is_aps k) b ≡ true
     → own (is_aps k) (before ++ gave b ∷ []) ≡ front ++ reads (message_blocks k (filled vs))
     → FoundWhole s before b k (filled vs)
 written_found s before front b k vs sized law goes e =
