@@ -5,4 +5,5 @@ pub mod Sounds
 pub mod Collections
 pub mod Wholes
 pub mod Only
+pub mod Faults
 pub mod Replies

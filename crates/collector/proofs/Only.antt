@@ -151,20 +151,20 @@ same_self : (t : Bool) → same t t ≡ true
 same_self true = refl
 same_self false = refl
 
-completes : (before : List Call) (b : MessageBlock) (k : Kind) (u : Content) → b.kind ≡ Some k → same_kind k Basic ≡ false
-    → Makes (own (is_aps k) before ++ b ∷ []) b.kind (Whole u) → Completes before b k u.values
-completes before b k u e f M =
-    let s : Some u.kind ≡ Some k = sym M.2 ∙ e in
+-- the blocks of a message, as they were given
+pub arrives : (before : List Call) (b : MessageBlock) (k : Kind) (u : Content) → b.kind ≡ Some k → same_kind k Basic ≡ false
+    → Ends (own (is_aps k) before ++ b ∷ []) u (blocks_of u.kind) → b.kind ≡ Some u.kind → Arrives before b k u.values
+arrives before b k u e f E o =
+    let s : Some u.kind ≡ Some k = sym o ∙ e in
     let kind : u.kind ≡ k = cc in
     let goes : goes_to (is_aps k) b ≡ true
     = ap (goes_kind (is_aps k)) e ∙ ap₂ (λ (x y : Bool). not x && y) f (same_self (is_aps k)) in
-    let row : Arrives before b k u.values = record {
-      front = M.0.front;
+    record {
+      front = E.front;
       goes = goes;
-      is = own_push (is_aps k) before b true goes ∙ M.0.is ∙ ap (λ (z : Kind). M.0.front ++ parts z u.values) kind;
-      long = M.0.long ∙ ap (λ (z : Kind). 2 * blocks_of z) kind;
-    } in
-    (row, M.1)
+      is = own_push (is_aps k) before b true goes ∙ E.is ∙ ap (λ (z : Kind). E.front ++ parts z u.values) kind;
+      long = E.long ∙ ap (λ (z : Kind). 2 * blocks_of z) kind;
+    }
 
 found_part : (before : List Call) (b : MessageBlock) (k l : Kind) (o : Outcome) → b.kind ≡ Some l → same_kind l Basic ≡ false
     → Makes (own (is_aps l) before ++ b ∷ []) b.kind o → found_of o ≡ Ok (Some k) → (us : List ℕ) × Completes before b k us
@@ -174,7 +174,7 @@ found_part before b k l Corrupt e f M w = absurd (let z : ◌≡◌ {A = ℕ} 0 
 found_part before b k l (Whole u) e f M w =
     let s : Some l ≡ Some u.kind = sym e ∙ M.2 in
     let kind : l ≡ k = cc in
-    (u.values, subst (λ (x : Kind). Completes before b x u.values) kind (completes before b l u e f M))
+    (u.values, subst (λ (x : Kind). Completes before b x u.values) kind ((arrives before b l u e f M.0 M.2, M.1)))
 
 no_basic : (b : MessageBlock) (k : Kind) (t : Bool) → (k ≡ Basic → ⊥)
     → (cond {A = Report} t (record { broken = false; found = Ok (Some Basic) }) (record { broken = true; found = Ok None })).found ≡ Ok (Some k) → ⊥

@@ -67,10 +67,10 @@ part_advances g k i us c a b e h q l =
     ∙ ap (λ (t : Bool). marked_outcome (content k (us ++ a ∷ b ∷ [])) t t) (ne_eqb (i + 1) (blocks_of k) l))
 
 -- before the last block, the collection holds what has come
-pub collected : (g : Bool) (k : Kind) (us : List ℕ) (c : Option Content) → goes_kind g (Some k) ≡ true → length us ≡ 2 * blocks_of k
-    → (i : ℕ) → 1 ≤ i → i < blocks_of k → advances g c (parts k (take (2 * i) us)) ≡ Some (content k (take (2 * i) us))
-collected g k us c e l zero lo hi = absurd (omega arith)
-collected g k us c e l (suc j) lo hi =
+pub collected : (g : Bool) (k : Kind) (us : List ℕ) (c : Option Content) → goes_kind g (Some k) ≡ true
+    → (i : ℕ) → 2 * i ≤ length us → 1 ≤ i → i < blocks_of k → advances g c (parts k (take (2 * i) us)) ≡ Some (content k (take (2 * i) us))
+collected g k us c e zero l lo hi = absurd (omega arith)
+collected g k us c e (suc j) l lo hi =
     let more : take (2 * suc j) us ≡ take (2 * j) us ++ get_or us (2 * j) 0 ∷ get_or us (2 * j + 1) 0 ∷ []
     = ap (λ (n : ℕ). take (2 * n) us) (let z : suc j ≡ j + 1 = omega arith in z) ∙ take_two us j (omega arith) in
     let len : length (take (2 * j) us) ≡ 2 * j = length-take-le (2 * j) us (omega arith) in
@@ -78,7 +78,7 @@ collected g k us c e l (suc j) lo hi =
     ∙ ap (advances g c) (parts_push k j (take (2 * j) us) (get_or us (2 * j) 0) (get_or us (2 * j + 1) 0) len)
     ∙ advances_append g c (parts k (take (2 * j) us)) (part_at k j (get_or us (2 * j) 0) (get_or us (2 * j + 1) 0) ∷ [])
     ∙ part_advances g k j (take (2 * j) us) (advances g c (parts k (take (2 * j) us))) (get_or us (2 * j) 0) (get_or us (2 * j + 1) 0) e len
-    (λ lo'. collected g k us c e l j lo' (omega arith)) (omega arith)
+    (λ lo'. collected g k us c e j (omega arith) lo' (omega arith)) (omega arith)
     ∙ ap (λ (vs : List ℕ). Some (content k vs)) (sym more)
 
 -- what goes to a collection is not basic
@@ -137,7 +137,7 @@ arrived s before b k us h =
       kind = kind;
       other = not_basic g k goes;
       next = ap (next_outcome k c) is
-          ∙ joined_part k m us' c x y len' (λ lo. there ∙ collected g k us (advances g (coll g s) front) goes len m lo (omega arith))
+          ∙ joined_part k m us' c x y len' (λ lo. there ∙ collected g k us (advances g (coll g s) front) goes m (omega arith) lo (omega arith))
           ∙ ap (λ (t : Bool). marked_outcome (content k (us' ++ x ∷ y ∷ [])) t t) (eq-eqb (m + 1) (blocks_of k) (omega arith))
           ∙ ap (λ (vs : List ℕ). tested_outcome (content k vs)) (sym split);
     }
@@ -156,20 +156,26 @@ whole_found s before b k us sized h =
       waits = λ d. ap (λ (x : State). x.question) at ∙ both.2 d;
     }
 
+-- a message whose blocks have come in a row and leave another remainder
+pub corrupt_found : (s : State) (before : List Call) (b : MessageBlock) (k : Kind) (ws : List ℕ)
+    → Arrives before b k ws → (crc12 (bits ws) ≡ 0 → ⊥) → (report_of (run s before) b).found ≡ Err WrongRemainder
+corrupt_found s before b k ws h bad =
+    let S : State = run s before in
+    let T : Tested S b k ws = arrived s before b k ws h in
+    ap (λ (x : Option Kind). (report_kind x S b).found) T.kind
+    ∙ ap (λ (t : Bool). (cond t (report_basic b) (report_part k S b)).found) T.other
+    ∙ ap found_of (T.next ∙ ap (λ (t : Bool). cond t (Whole (content k ws)) Corrupt) (ne_eqb (crc12 (bits ws)) 0 bad))
+
 pub change_found : (s : State) (before : List Call) (b : MessageBlock) (k : Kind) (us ws : List ℕ)
     → Arrives before b k ws → length us ≡ length ws → crc12 (bits us) ≡ 0
     → 0 < weight (xors (bits us) (bits ws)) → weight (xors (bits us) (bits ws)) ≤ 3
     → (report_of (run s before) b).found ≡ Err WrongRemainder
 change_found s before b k us ws h l e lo hi =
-    let S : State = run s before in
-    let T : Tested S b k ws = arrived s before b k ws h in
-    let bad : crc12 (bits ws) ≡ 0 → ⊥ = λ z.
+    corrupt_found s before b k ws h
+    (λ z.
     (detects 12 0x180F 2047 twelve).0 (bits us) (bits ws)
     (length_bits us ∙ ap (λ (n : ℕ). 8 * n) l ∙ sym (length_bits ws))
-    (omega (arith, length_bits us, l, h.long, few_blocks k)) e z lo hi in
-    ap (λ (x : Option Kind). (report_kind x S b).found) T.kind
-    ∙ ap (λ (t : Bool). (cond t (report_basic b) (report_part k S b)).found) T.other
-    ∙ ap found_of (T.next ∙ ap (λ (t : Bool). cond t (Whole (content k ws)) Corrupt) (ne_eqb (crc12 (bits ws)) 0 bad))
+    (omega (arith, length_bits us, l, h.long, few_blocks k)) e z lo hi)
 
 pub written_found : (s : State) (before : List Call) (front : List MessageBlock) (b : MessageBlock) (k : Kind) (vs : List ℕ)
     → Sound s → lawful k vs ≡ true → goes_to (is_aps k) b ≡ true
