@@ -1,7 +1,6 @@
 -- When each fault is reported.
 use Rattle.std.proofs.Common.{Ok, Err, ◌≡◌, ◌↔◌, ℕ, ◌+◌, ◌-◌, ◌*◌, ◌<◌, ◌≤◌, Bool, true, false, cond, not, ◌&&◌, ◌||◌, eqb, is_some, List, [], ◌∷◌, ◌++◌, length, get_or, take, Some, None, Option, sym, refl, ap, ◌∙◌, subst, ap₂, append_assoc, arith}
 use Rattle.std.proofs.lemmas.List.{length-take-le, take_all}
-use Rattle.std.proofs.lemmas.Bool.{or_parts, eqb-true}
 use Rattle.bits.specs.Bits.{bits}
 use Rattle.message.specs.declared.Kind.{Kind}
 use Rattle.message.specs.declared.Kind.TheVariants.{Basic}
@@ -18,12 +17,12 @@ use Rattle.collector.specs.declared.assembly.Outcome.{Outcome}
 use Rattle.collector.specs.declared.assembly.Outcome.TheVariants.{Broken, Incomplete, Corrupt, Whole}
 use Rattle.collector.specs.Outcomes.{continued_outcome, empty_message, extended_outcome, marked_outcome, next_outcome, same_kind, tested_outcome, with_block}
 use Rattle.collector.specs.Step.{found_of, is_aps, is_broken, new_state, one_mark, report_basic, report_kind, report_of, report_part, same}
-use Rattle.collector.specs.Runs.{Arrives, ArrivesCorrupt, Call, Follows, NoneUnderWay, UnderWay, asked, begins, continues, gave, goes_kind, goes_to, own, run}
+use Rattle.collector.specs.Runs.{ArrivesCorrupt, Call, Follows, NoneUnderWay, UnderWay, asked, begins, continues, gave, goes_kind, goes_to, own, run}
 use Rattle.collector.proofs.Extends.{last_test}
 use Rattle.collector.proofs.SameKinds.{one_kind, same_true}
 use Rattle.collector.proofs.Collections.{coll, advances, coll_run, advances_append}
 use Rattle.collector.proofs.Wholes.{part_at, content, parts_push, collected, corrupt_found}
-use Rattle.collector.proofs.Only.{Came, Ends, Makes, arrives, came, next_makes}
+use Rattle.collector.proofs.Only.{Came, Makes, arrives, came, next_makes}
 
 -- ---- what a collection holds, as blocks that have come
 
@@ -100,7 +99,7 @@ unbroken_tested u = go (eqb (crc12 (bits u.values)) 0)
     go true = refl
     go false = refl
 
-marks_unbroken : (u : Content) (e l : Bool) → e ≡ l → is_broken (marked_outcome u e l) ≡ false
+pub marks_unbroken : (u : Content) (e l : Bool) → e ≡ l → is_broken (marked_outcome u e l) ≡ false
 marks_unbroken u true true h = unbroken_tested u
 marks_unbroken u true false h = absurd (let z : ◌≡◌ {A = ℕ} 0 1 = cc in omega arith)
 marks_unbroken u false true h = absurd (let z : ◌≡◌ {A = ℕ} 0 1 = cc in omega arith)
@@ -117,10 +116,10 @@ ends_unbroken u b i l h =
     (h ∙ sym (last_test u.values i (blocks_of u.kind) b.first b.second l))
 
 -- whether a block of kind k breaks the sequence, by its start mark and by what its collection holds
-abbrev breaks : Kind → MessageBlock → Bool → Option Content → Bool
+abbrev pub breaks : Kind → MessageBlock → Bool → Option Content → Bool
 breaks k b t c = (t && is_some c) || is_broken (cond t (extended_outcome (empty_message k) b) (continued_outcome k c b))
 
-broken_is : (s : State) (b : MessageBlock) (k : Kind) → b.kind ≡ Some k → same_kind k Basic ≡ false
+pub broken_is : (s : State) (b : MessageBlock) (k : Kind) → b.kind ≡ Some k → same_kind k Basic ≡ false
     → (report_of s b).broken ≡ breaks k b b.starts (coll (is_aps k) s)
 broken_is s b k e f =
     ap (λ (x : Option Kind). (report_kind x s b).broken) e

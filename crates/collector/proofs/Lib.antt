@@ -6,4 +6,7 @@ pub mod Collections
 pub mod Wholes
 pub mod Only
 pub mod Faults
+pub mod Undamaged
+pub mod Latest
+pub mod Laws
 pub mod Replies

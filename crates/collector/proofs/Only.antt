@@ -19,12 +19,12 @@ use Rattle.collector.specs.declared.assembly.Outcome.TheVariants.{Broken, Incomp
 use Rattle.collector.specs.Outcomes.{continued_outcome, extended_outcome, with_block, marked_outcome, next_outcome, same_kind, unfinished_of}
 use Rattle.collector.specs.Step.{after, found_of, is_aps, new_state, one_mark, report_basic, report_kind, report_of, report_part, same, unasked}
 use Rattle.collector.specs.Runs.{Call, gave, asked, goes_kind, goes_to, own, run, Arrives, Completes}
-use Rattle.collector.specs.Laws.{FoundWhole, Laws}
+use Rattle.collector.specs.Laws.{FoundWhole}
 use Rattle.collector.proofs.Extends.{last_test}
 use Rattle.collector.proofs.Collections.{coll, advance, advance_kind, advance_other, coll_kind, own_push, own_asked}
 use Rattle.collector.proofs.SameKinds.{one_kind}
-use Rattle.collector.proofs.Sounds.{sound_new, sound_run}
-use Rattle.collector.proofs.Wholes.{part_at, content, parts_push, change_found, whole_found, written_found}
+use Rattle.collector.proofs.Sounds.{sound_new}
+use Rattle.collector.proofs.Wholes.{part_at, content, parts_push, whole_found}
 
 -- some blocks end with the first i blocks of a message
 pub record Ends (h : List MessageBlock) (u : Content) (i : ℕ) : Type 0 where
@@ -147,7 +147,7 @@ pub came : (g : Bool) (cs : List Call) → Came (own g cs) (coll g (run new_stat
 came true cs = came_run true [] cs new_state tt
 came false cs = came_run false [] cs new_state tt
 
-same_self : (t : Bool) → same t t ≡ true
+pub same_self : (t : Bool) → same t t ≡ true
 same_self true = refl
 same_self false = refl
 
@@ -201,6 +201,3 @@ pub only_whole : (before : List Call) (b : MessageBlock) (k : Kind)
 only_whole before b k w h =
     let c = found_kind before b k b.kind refl w h in
     (c.0, c.1, whole_found new_state before b k c.0 sound_new c.1)
-
-pub laws : Laws
-laws = record { sound = sound_run; whole_found = whole_found; written_found = written_found; change_found = change_found; only_whole = only_whole }

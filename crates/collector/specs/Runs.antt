@@ -147,8 +147,8 @@ never_asked (asked ∷ cs) = false
 
 -- the last of some calls collects the question, or there is none
 pub data JustAsked : List Call → Type 0 where
-  none : JustAsked []
-  last : (cs : List Call) → JustAsked (cs ++ asked ∷ [])
+  no_call : JustAsked []
+  asked_last : (cs : List Call) → JustAsked (cs ++ asked ∷ [])
 
 -- no whole question has come since the question was last collected, or since the first call
 pub record NoQuestion (cs : List Call) : Type 0 where

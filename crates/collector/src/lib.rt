@@ -6,7 +6,7 @@
 ghost use Rattle.std.specs.Prelude.{◌≡◌, IfSome, IsFalse, Some, length};
 ghost use Rattle.std.specs.Option.{option_map};
 ghost use Rattle.collector.specs.Faults.{fault_from, fault_number, fault_text, faults_of};
-ghost use Rattle.collector.specs.Laws.{Laws};
+ghost use Rattle.collector.specs.Laws.{FaultLaws, LatestLaws, Laws};
 ghost use Rattle.collector.specs.Content.{IsPart};
 ghost use Rattle.collector.specs.State.{IsFull, Sound, last_of, place_of};
 ghost use Rattle.collector.specs.Step.{after, after_basic, after_part, collection_of, held, kept, new_state, report_basic, report_of, report_part, unasked};
@@ -143,6 +143,8 @@ impl Collector {
         ensures state { result ≡ new_state }
         ensures sound { Sound result }
         ensures laws { Laws }
+        ensures faults { FaultLaws }
+        ensures latest { LatestLaws }
     {
         Collector {
             aps: None,
