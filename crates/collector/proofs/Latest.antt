@@ -1,11 +1,12 @@
 -- What a collector keeps is the latest whole message of each kind, and the latest whole question that was not collected since.
-use Rattle.std.proofs.Common.{Ok, ◌≡◌, ℕ, Bool, true, false, cond, List, [], ◌∷◌, ◌++◌, length, take, Some, None, Option, sym, refl, ap, ◌∙◌, subst, append_assoc, arith}
+use Rattle.std.proofs.Common.{Ok, ◌≡◌, ◌↔◌, ℕ, Bool, true, false, cond, List, [], ◌∷◌, ◌++◌, length, take, Some, None, Option, Result, sym, refl, ap, ◌∙◌, subst, append_assoc, arith}
 use Rattle.std.specs.List.{All}
 use Rattle.std.proofs.lemmas.List.{append-nil}
 use Rattle.std.proofs.lemmas.List.Elements.{All-nil, All-cons, All-append}
 use Rattle.message.specs.declared.Kind.{Kind}
 use Rattle.message.specs.declared.Kind.TheVariants.{Basic, Aps, Cv, OneDm, TwoDmm, TwoDmr, Cs}
 use Rattle.message.specs.declared.MessageBlock.{MessageBlock}
+use Rattle.collector.specs.declared.BlockError.{BlockError}
 use Rattle.collector.specs.declared.Report.{Report}
 use Rattle.collector.specs.Content.{Content}
 use Rattle.collector.specs.State.{State, last_of}
@@ -17,7 +18,7 @@ use Rattle.collector.specs.Runs.{Arrives, Call, IsLatest, IsWaiting, LatestWhole
 use Rattle.collector.proofs.SameKinds.{one_kind, same_true}
 use Rattle.collector.proofs.Sounds.{last_kept_same, last_kept_other, sound_new, sound_run}
 use Rattle.collector.proofs.Collections.{coll, run_append}
-use Rattle.collector.proofs.Wholes.{content}
+use Rattle.collector.proofs.Wholes.{content, whole_found}
 use Rattle.collector.proofs.Only.{Makes, arrives, came, next_makes}
 
 -- ---- what one block does for a kind
@@ -96,6 +97,25 @@ effect_kind h b k s (Some l) e z r = go (same_kind l Basic) refl
 
 effect : (h : List Call) (b : MessageBlock) (k : Kind) → Effect h b k (run new_state h) (report_of (run new_state h) b) (after (run new_state h) b)
 effect h b k = effect_kind h b k (run new_state h) b.kind refl (sound_run new_state h sound_new).places refl
+
+-- a message is reported whole exactly where its last block makes it so
+found_made : (h : List Call) (b : MessageBlock) (k : Kind) (s t : State) (r : Report) → Effect h b k s r t → r.found ≡ Ok (Some k) → (us : List ℕ) × MakesWhole h b k us
+found_made h b k s t r (made us M l q) w = (us, M)
+found_made h b k s t r (other n l q) w = absurd (n w)
+
+made_found : (h : List Call) (b : MessageBlock) (k : Kind) (us : List ℕ) → MakesWhole h b k us → (report_of (run new_state h) b).found ≡ Ok (Some k)
+made_found h b k us (basic d e m v) =
+    ap (λ (x : Option Kind). (report_kind x (run new_state h) b).found) e
+    ∙ ap (λ (t : Bool). (cond {A = Report} t (record { broken = false; found = Ok (Some Basic) }) (record { broken = true; found = Ok None })).found) m
+    ∙ ap {B = Result (Option Kind) BlockError} (λ (x : Kind). Ok (Some x)) (sym d)
+made_found h b k us (collected C) = (whole_found new_state h b k us sound_new C).found
+
+pub whole_exactly : (h : List Call) (b : MessageBlock) (k : Kind)
+    → ((report_of (run new_state h) b).found ≡ Ok (Some k)) ↔ ((us : List ℕ) × MakesWhole h b k us)
+whole_exactly h b k = (
+  found_made h b k (run new_state h) (after (run new_state h) b) (report_of (run new_state h) b) (effect h b k),
+  λ p. made_found h b k p.0 p.1,
+)
 
 -- ---- calls one by one
 

@@ -12,9 +12,10 @@ use Rattle.message.specs.declared.Kind.{Kind}
 use Rattle.message.specs.declared.Kind.TheVariants.{Basic}
 use Rattle.message.specs.declared.MessageBlock.{MessageBlock}
 use Rattle.message.specs.Kinds.{blocks_of}
-use Rattle.message.specs.Values.{crc12, paired}
+use Rattle.message.specs.Values.{crc12, filled, lawful, paired}
 use Rattle.message.proofs.Pairs.{take_two}
-use Rattle.message.proofs.Writes.{some_blocks}
+use Rattle.message.proofs.Laws.{laws}
+use Rattle.message.proofs.Writes.{lawful_length, some_blocks}
 use Rattle.collector.specs.declared.Fault.TheVariants.{Sequence}
 use Rattle.collector.specs.declared.BlockError.{BlockError}
 use Rattle.collector.specs.declared.Report.{Report}
@@ -215,3 +216,9 @@ undamaged cs protection low W =
     (subst (Due None) (sym W.protection_row) (due_row protection W.protection_undamaged))
     (subst (Due None) (sym W.low_row) (due_row low W.low_undamaged))
     W.kinds
+
+pub written_undamaged : (k : Kind) (vs : List ℕ) → lawful k vs ≡ true → Undamaged (content k (filled vs))
+written_undamaged k vs law =
+    let len : length vs ≡ 2 * blocks_of k = lawful_length k vs law in
+    let two : 2 ≤ length vs = omega (arith, some_blocks k) in
+    record { long = laws.long vs two ∙ len; remainder = laws.leaves vs two }

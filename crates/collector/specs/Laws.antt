@@ -13,7 +13,7 @@ use Rattle.collector.specs.Content.{Content}
 use Rattle.collector.specs.Faults.{faults_of}
 use Rattle.collector.specs.State.{State, Sound, last_of}
 use Rattle.collector.specs.Step.{is_aps, new_state, report_of, same}
-use Rattle.collector.specs.Runs.{Arrives, ArrivesCorrupt, Call, Completes, Follows, IsLatest, IsWaiting, Woven, gave, goes_to, own, reports, run}
+use Rattle.collector.specs.Runs.{Arrives, ArrivesCorrupt, Call, Completes, Follows, IsLatest, IsWaiting, MakesWhole, Undamaged, Woven, gave, goes_to, own, reports, run}
 
 -- b, taken after some calls, is reported to make a message of kind k whole, which is then the last of its kind;
 -- one of two-way delay then waits as the question
@@ -40,7 +40,10 @@ pub record Laws : Type 0 where
       → Arrives before b k ws → length us ≡ length ws → crc12 (bits us) ≡ 0
       → 0 < weight (xors (bits us) (bits ws)) → weight (xors (bits us) (bits ws)) ≤ 3
       → (report_of (run s before) b).found ≡ Err WrongRemainder
-  -- A new collector reports no other message whole but a basic one.
+  -- A new collector reports a message whole exactly where its last block makes it so.
+  pub whole_exactly : (before : List Call) (b : MessageBlock) (k : Kind)
+      → ((report_of (run new_state before) b).found ≡ Ok (Some k)) ↔ ((us : List ℕ) × MakesWhole before b k us)
+  -- So it reports no other message whole but a basic one.
   pub only_whole : (before : List Call) (b : MessageBlock) (k : Kind)
       → (report_of (run new_state before) b).found ≡ Ok (Some k) → (k ≢ Basic)
       → (us : List ℕ) × Completes before b k us × FoundWhole new_state before b k us
@@ -61,6 +64,8 @@ pub record FaultLaws : Type 0 where
   -- None at all of messages that come undamaged to a new collector, woven in any order that keeps that of each collection.
   pub undamaged : (cs : List Call) (protection low : List Content)
       → Woven cs protection low → All (λ r. faults_of r ≡ None ∷ None ∷ []) (reports new_state cs)
+  -- What the writer makes of lawful values is undamaged.
+  pub written_undamaged : (k : Kind) (vs : List ℕ) → lawful k vs ≡ true → Undamaged (record { kind = k; values = filled vs })
 
 -- What a new collector holds after some calls.
 pub record LatestLaws : Type 0 where
