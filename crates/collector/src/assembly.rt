@@ -103,6 +103,7 @@ impl Unfinished {
     }
 
     // The message with one more block; the end mark must stand on its last block and on no other.
+    #[tactic(auto, using(crate::proofs::Extends::extending))]
     fn extend(self, block: MessageBlock) -> Outcome
         ensures outcome { result ≡ extended_outcome self block }
         ensures sized { IsSized result }
