@@ -221,4 +221,4 @@ pub written_undamaged : (k : Kind) (vs : List ℕ) → lawful k vs ≡ true → 
 written_undamaged k vs law =
     let len : length vs ≡ 2 * blocks_of k = lawful_length k vs law in
     let two : 2 ≤ length vs = omega (arith, some_blocks k) in
-    record { long = laws.long vs two ∙ len; remainder = laws.leaves vs two }
+    record { long = laws.same_length vs two ∙ len; remainder = laws.zero_remainder vs two }

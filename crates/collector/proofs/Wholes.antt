@@ -189,7 +189,7 @@ written_found s before front b k vs sized law goes e =
         front = front;
         goes = goes;
         is = e ∙ ap (λ (l : List MessageBlock). front ++ l) (laws.message_back k (filled vs));
-        long = laws.long vs two ∙ len;
+        long = laws.same_length vs two ∙ len;
       },
-      laws.leaves vs two,
+      laws.zero_remainder vs two,
     )

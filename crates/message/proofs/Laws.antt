@@ -1,11 +1,15 @@
 -- The laws of what is written.
-use Rattle.std.proofs.Common.{◌≡◌, ℕ, zero, suc, ◌+◌, ◌-◌, ◌*◌, ◌≤◌, Bool, List, ◌++◌, length, take, drop, refl, ap, ◌∙◌, ap₂, arith}
+use Rattle.std.proofs.Common.{◌≡◌, ℕ, zero, suc, ◌+◌, ◌-◌, ◌*◌, ◌≤◌, Bool, true, List, ◌++◌, length, take, drop, refl, ap, ◌∙◌, ap₂, arith}
 use Rattle.std.proofs.lemmas.List.{length-append, length-take-le, take_at}
 use Rattle.bits.specs.Bits.{bits, field, high_first, packed}
 use Rattle.crc.proofs.Laws.{appended}
 use Rattle.bits.proofs.Places.{length_bits}
-use Rattle.message.specs.Values.{covered, crc12, filled}
-use Rattle.message.specs.Written.{Laws}
+use Rattle.message.specs.declared.Kind.{Kind}
+use Rattle.message.specs.Kinds.{blocks_of}
+use Rattle.message.specs.Values.{covered, crc12, filled, lawful}
+use Rattle.message.specs.Written.{Laws, block_at, message_blocks}
+use Rattle.message.proofs.Pairs.{length_paired}
+use Rattle.message.proofs.Writes.{lawful_length, some_blocks}
 use Rattle.message.proofs.Tails.{filled_bits}
 use Rattle.message.proofs.ReadBacks.{read_back, blocks_read_back, eleven}
 
@@ -36,12 +40,18 @@ filled_covered vs h =
     (filled_bits vs h)
     ∙ take_at (covered vs) (high_first 12 (crc12 (covered vs))) (8 * length vs - 12 - 0) (covered_length vs)
 
+block_count : (k : Kind) (vs : List ℕ) → lawful k vs ≡ true → length (message_blocks k (filled vs)) ≡ blocks_of k
+block_count k vs h =
+    let long : length vs ≡ 2 * blocks_of k = lawful_length k vs h in
+    length_paired (block_at k) (blocks_of k) 0 (filled vs) (filled_length vs (omega (arith, some_blocks k)) ∙ long)
+
 pub laws : Laws
 laws = record {
   block_back = read_back;
   message_back = blocks_read_back;
-  long = filled_length;
-  kept = filled_covered;
-  leaves = filled_leaves;
+  block_count = block_count;
+  same_length = filled_length;
+  same_covered_bits = filled_covered;
+  zero_remainder = filled_leaves;
   eleven = eleven;
 }

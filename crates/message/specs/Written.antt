@@ -66,8 +66,10 @@ pub record Laws : Type 0 where
   pub block_back : (k : Kind) (s e : Bool) (a b : ℕ) → read_of (message_block k s e a b) ≡ Some (said k s e a b)
   -- so a message's blocks say its kind, the marks in their places, and its values
   pub message_back : (k : Kind) (us : List ℕ) → reads (message_blocks k us) ≡ parts k us
+  -- a message of lawful values has as many blocks as its kind
+  pub block_count : (k : Kind) (vs : List ℕ) → lawful k vs ≡ true → length (message_blocks k (filled vs)) ≡ blocks_of k
   -- filled values are as long, have the bits that were given before the remainder, and leave 0
-  pub long : (vs : List ℕ) → 2 ≤ length vs → length (filled vs) ≡ length vs
-  pub kept : (vs : List ℕ) → 2 ≤ length vs → covered (filled vs) ≡ covered vs
-  pub leaves : (vs : List ℕ) → 2 ≤ length vs → crc12 (bits (filled vs)) ≡ 0
+  pub same_length : (vs : List ℕ) → 2 ≤ length vs → length (filled vs) ≡ length vs
+  pub same_covered_bits : (vs : List ℕ) → 2 ≤ length vs → covered (filled vs) ≡ covered vs
+  pub zero_remainder : (vs : List ℕ) → 2 ≤ length vs → crc12 (bits (filled vs)) ≡ 0
   pub eleven : PayloadTypeEleven
