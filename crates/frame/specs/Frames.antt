@@ -6,7 +6,7 @@ use Rattle.block.specs.declared.Sync.TheVariants.{Control, Data}
 use Rattle.block.specs.declared.Class.TheVariants.{Data as DataClass, End}
 use Rattle.block.specs.Classes.{class_of}
 use Rattle.block.specs.Fixed.{start_block}
-use Rattle.payload.specs.Bits.{splice}
+use Rattle.bits.specs.Splices.{splice}
 
 -- the block at a place of the frame that carries these bytes: data blocks take eight each, the end block the last seven
 abbrev pub frame_block : List ℕ → ℕ → Block

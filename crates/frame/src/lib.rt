@@ -6,7 +6,7 @@
 ghost use Rattle.std.specs.Prelude.{◌≡◌, ◌+◌, ◌*◌, ◌≤◌, ◌∷◌, ◌++◌, length, take, drop};
 ghost use Rattle.frame.specs.Frames.{FrameRestored, Shaped, carried_by, frame_block, frame_of, stored};
 ghost use Rattle.frame.specs.SlotStarts.{SlotStarts, SlotsBeginThere, slot_start};
-ghost use Rattle.payload.specs.Bits.{splice};
+ghost use Rattle.bits.specs.Splices.{splice};
 
 /// Places of blocks in a frame.
 pub mod place;
