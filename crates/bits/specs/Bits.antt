@@ -30,6 +30,12 @@ low_value [] = 0
 low_value (true ∷ bs) = 1 + 2 * low_value bs
 low_value (false ∷ bs) = 2 * low_value bs
 
+-- the number that they write, the highest digit first
+abbrev pub high_value : List Bool → ℕ
+high_value [] = 0
+high_value (true ∷ bs) = 2 ^ length bs + high_value bs
+high_value (false ∷ bs) = high_value bs
+
 -- the n bytes that are sent as these bits
 unfoldable pub packed : ℕ → List Bool → List ℕ
 packed zero bs = []
