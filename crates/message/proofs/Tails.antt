@@ -3,7 +3,7 @@ use Rattle.std.proofs.Common.{◌≡◌, ℕ, zero, suc, ◌+◌, ◌-◌, ◌*�
 use Rattle.std.specs.Int.{reverse_bits_onto}
 use Rattle.std.proofs.Math.Seq.{take-add}
 use Rattle.std.proofs.lemmas.List.{drop_more, length-append}
-use Rattle.bits.specs.Bits.{low_first, high_first, bits, field, packed}
+use Rattle.bits.specs.Bits.{low_first, high_first, bits, field, packed_bytes}
 use Rattle.bits.proofs.Digits.{low_reversed, length_high}
 use Rattle.bits.proofs.Parts.{bits_append, drop_bits, take_bits}
 use Rattle.bits.proofs.Places.{numbered, length_low}
@@ -73,7 +73,7 @@ unfolding filled
 last_filled vs r w x tail h ex hx hr er hw ew et =
     ap (λ (l : List ℕ). take (length vs - 2) vs ++ l)
     (et ∙ sym (numbered.packs ((w + x) % 256 ∷ (w + x) / 256 % 256 ∷ []) bytes)
-    ∙ ap (packed 2)
+    ∙ ap (packed_bytes 2)
     (tail_bits r x w hr hx hw ew
     ∙ ap₂ (λ (xs : List Bool) (k : ℕ). xs ++ high_first 12 k) (ap (low_first 4) ex ∙ sym (four_at vs h)) er))
   where
@@ -90,7 +90,7 @@ filled_bits vs h =
     let four : List Bool = field vs (8 * n - 16) (8 * n - 12) in
     let tail : List Bool = high_first 12 (crc12 (covered vs)) in
     let len : length (four ++ tail) ≡ 8 * 2 = length-append four tail ∙ ap₂ (λ (a b : ℕ). a + b) (ap length (four_at vs h) ∙ length_low 4 (get_or vs (n - 2) 0)) (length_high 12 (crc12 (covered vs))) in
-    bits_append (take (n - 2) vs) (packed 2 (four ++ tail))
+    bits_append (take (n - 2) vs) (packed_bytes 2 (four ++ tail))
     ∙ ap₂ (λ (xs ys : List Bool). xs ++ ys) (sym (take_bits (n - 2) vs)) (numbered.unpacks 2 (four ++ tail) len)
     ∙ sym (append_assoc (take (8 * (n - 2)) (bits vs)) four tail)
     ∙ ap (λ (xs : List Bool). xs ++ tail)

@@ -3,7 +3,7 @@
 --   bits 49 to 55  the remainder of bits 10 to 48               each the highest bit first
 -- All other bits are sent as zero and not read.
 use Rattle.std.specs.Prelude.{ℕ, Bool, false, if◌then◌else◌, not, List, ◌++◌, take, drop, replicate, Ok, Err, Result, ◌==◌, nat_lt}
-use Rattle.bits.specs.Bits.{high_first, high_value, packed, field}
+use Rattle.bits.specs.Bits.{high_first, high_value, packed_bytes, field}
 use Rattle.crc.specs.Remainder.{remainder}
 use Rattle.numbers.specs.Entries.{entry_of}
 use Rattle.overhead.specs.declared.Overhead.{Overhead}
@@ -32,7 +32,7 @@ overhead_bits f = replicate 10 false ++ (covered_bits f ++ high_first 7 (remaind
 
 -- the bytes sent
 unfoldable pub overhead_bytes : Fields → List ℕ
-overhead_bytes f = packed 7 (overhead_bits f)
+overhead_bytes f = packed_bytes 7 (overhead_bits f)
 
 -- what bits 10 to 55 say
 abbrev pub fields_in : List Bool → Fields
