@@ -15,7 +15,7 @@ use Rattle.payload.proofs.Slots.{blank, pairs_at, pairs_length, pairs_packed, un
 slot_whole : (slot : ℕ) (payload : List ℕ) → WholePair (pair_at slot payload)
 slot_whole slot payload = pair_whole (slot_bits slot payload)
 
-all_whole : (payload : List ℕ) → All WholePair (pairs_of payload)
+pub all_whole : (payload : List ℕ) → All WholePair (pairs_of payload)
 all_whole payload k d h =
     subst WholePair (sym (pairs_at payload k d (omega (arith, pairs_length payload)))) (slot_whole (k + 1) payload)
 

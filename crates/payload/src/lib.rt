@@ -12,7 +12,7 @@ ghost use Rattle.bits.specs.Splices.{splice};
 ghost use Rattle.payload.specs.Pairs.{block_bits, pair_bits};
 ghost use Rattle.payload.specs.Payloads.{pair_at, pairs_of, payload_of, slot_bit, slot_bits};
 ghost use Rattle.payload.specs.Places.{place_bit};
-ghost use Rattle.std.specs.List.{flat_map};
+ghost use Rattle.std.specs.List.{All, flat_map};
 
 mod slot_place;
 
@@ -200,6 +200,7 @@ pub fn pack(pairs: &[Pair; 480], payload: &mut Payload)
     ensures made { payload.new ≡ payload_of pairs.now }
     ensures sent { bits payload.new ≡ flat_map pair_bits pairs.now }
     ensures undone { pairs_of payload.new ≡ pairs.now }
+    ensures whole { All WholePair pairs.now }
 {
     // By twos, so that each call's half of the byte is known. A loop over the pairs, which tests it, takes about twice as long, and one
     // over chunks of two 1.03 times as long.
@@ -222,6 +223,7 @@ fn hold_bytes(payload: &Payload)
 pub fn unpack(payload: &Payload, pairs: &mut [Pair; 480])
     ensures made { pairs.new ≡ pairs_of payload.now }
     ensures undone { payload_of pairs.new ≡ payload.now }
+    ensures whole { All WholePair pairs.new }
 {
     // By twos, as in `pack`: a loop over the pairs takes 1.6 times as long, and nothing is promised of what a slice ends as that
     // `as_chunks_mut` took apart.
