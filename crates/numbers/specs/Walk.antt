@@ -3,9 +3,9 @@ use Rattle.std.specs.Prelude.{ℕ, ◌+◌, ◌-◌, ◌%◌, List}
 use Rattle.std.specs.List.{range_with_len}
 use Rattle.numbers.specs.Range.{slots}
 
--- the client or slot numbers from one on, up to the last
-unfoldable pub numbers_from : ℕ → List ℕ
-numbers_from n = range_with_len n (slots + 1 - n)
+-- the numbers from one to another, both included, by rising number; none where the other is lower
+unfoldable pub numbers_between : ℕ → ℕ → List ℕ
+numbers_between first last = range_with_len first (last + 1 - first)
 
 -- the frame number behind one: after the last of a multiframe comes 0
 abbrev pub next_frame_number : ℕ → ℕ

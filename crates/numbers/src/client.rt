@@ -1,10 +1,10 @@
 //! Client numbers: a client named by an entry of a calendar, and all clients by rising number.
 
-ghost use Rattle.std.specs.Prelude.{◌≡◌, ◌+◌, ◌<◌, IfOk, IfSome, true, ⊤};
-ghost use Rattle.std.specs.Iterator.{MakesProgress, YieldsFirst, item_count};
+ghost use Rattle.std.specs.Prelude.{◌≡◌, ◌+◌, ◌<◌, IfOk, IfSome, true};
+ghost use Rattle.std.specs.Iterator.{YieldsFirst, item_count};
 ghost use Rattle.numbers.specs.Entries.{checked_entry, entry_of, is_entry};
 ghost use Rattle.numbers.specs.Range.{IsOneTo480, checked, number_at, slots};
-ghost use Rattle.numbers.specs.Walk.{numbers_from};
+ghost use Rattle.numbers.specs.Walk.{numbers_between};
 
 use crate::{LAST, SLOTS};
 use refusal::Refusal;
@@ -57,7 +57,7 @@ impl ClientNumber {
 
     /// All clients, by rising number.
     pub fn all() -> Clients
-        ensures { result ≡ numbers_from 1 }
+        ensures { result ≡ numbers_between 1 slots }
     {
         Clients { next: 1 }
     }
@@ -113,15 +113,15 @@ pub struct Clients {
 }
 
 impl Model for Clients {
-    ghost use Rattle.std.specs.Prelude.{ℕ, ◌+◌, ◌≤◌, List};
+    ghost use Rattle.std.specs.Prelude.{ℕ, ◌≤◌, List};
     ghost use Rattle.numbers.specs.Range.{slots};
-    ghost use Rattle.numbers.specs.Walk.{numbers_from};
+    ghost use Rattle.numbers.specs.Walk.{numbers_between};
 
     ghost Value = { List ℕ };
 
-    ghost view = { λ c. numbers_from c.next };
+    ghost view = { λ c. numbers_between c.next slots };
 
-    ghost invariant = { λ c. (1 ≤ c.next) × (c.next ≤ slots + 1) };
+    ghost invariant = { λ c. 1 ≤ c.next };
 }
 
 impl Iterator for Clients {
@@ -131,12 +131,8 @@ impl Iterator for Clients {
 
     ghost remaining = { item_count (λ c. c) };
 
-    #[tactic(auto, using(crate::proofs::Walks::numbers_from_next, crate::proofs::Walks::numbers_from_end))]
-    fn next(&mut self) -> Option<ClientNumber>
-        ensures steps { YieldsFirst (λ c. c) self.old result self.new }
-        ensures goes { MakesProgress (λ _. ⊤) (item_count (λ c. c)) self.old result self.new }
-        ensures range { IfSome result IsOneTo480 }
-    {
+    #[tactic(auto, using(crate::proofs::Walks::numbers_between_next, crate::proofs::Walks::numbers_between_end))]
+    fn next(&mut self) -> Option<ClientNumber> {
         if self.next > LAST {
             return None;
         }

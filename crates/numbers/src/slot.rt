@@ -1,9 +1,9 @@
 //! Slot numbers, and all slots by rising number.
 
-ghost use Rattle.std.specs.Prelude.{◌≡◌, ◌+◌, ◌<◌, IfOk, IfSome, ⊤};
-ghost use Rattle.std.specs.Iterator.{MakesProgress, YieldsFirst, item_count};
+ghost use Rattle.std.specs.Prelude.{◌≡◌, ◌+◌, ◌<◌, IfOk, IfSome};
+ghost use Rattle.std.specs.Iterator.{YieldsFirst, item_count};
 ghost use Rattle.numbers.specs.Range.{IsOneTo480, checked, number_at, slots};
-ghost use Rattle.numbers.specs.Walk.{numbers_from};
+ghost use Rattle.numbers.specs.Walk.{numbers_between};
 
 use crate::{LAST, SLOTS};
 use refusal::Refusal;
@@ -64,9 +64,23 @@ impl SlotNumber {
 
     /// All slots, by rising number.
     pub fn all() -> Slots
-        ensures { result ≡ numbers_from 1 }
+        ensures { result ≡ numbers_between 1 slots }
     {
-        Slots { next: 1 }
+        Slots {
+            next: 1,
+            last: LAST,
+        }
+    }
+
+    /// The slots from this one to another, both included, by rising number; none where the other is lower.
+    pub fn to(self, last: SlotNumber) -> Slots
+        ensures value { result ≡ numbers_between self last }
+        ensures range { IsOneTo480 self × IsOneTo480 last }
+    {
+        Slots {
+            next: self.number,
+            last: last.number,
+        }
     }
 
     /// The slot's place in a calendar, from 0.
@@ -93,22 +107,23 @@ impl SlotNumber {
     }
 }
 
-/// Slots by rising number, up to the last one.
+/// Slots by rising number, up to a last one.
 #[derive(Clone, Debug, Drop)]
 pub struct Slots {
     next: u16,
+    last: u16,
 }
 
 impl Model for Slots {
-    ghost use Rattle.std.specs.Prelude.{ℕ, ◌+◌, ◌≤◌, List};
+    ghost use Rattle.std.specs.Prelude.{ℕ, ◌≤◌, List};
     ghost use Rattle.numbers.specs.Range.{slots};
-    ghost use Rattle.numbers.specs.Walk.{numbers_from};
+    ghost use Rattle.numbers.specs.Walk.{numbers_between};
 
     ghost Value = { List ℕ };
 
-    ghost view = { λ s. numbers_from s.next };
+    ghost view = { λ s. numbers_between s.next s.last };
 
-    ghost invariant = { λ s. (1 ≤ s.next) × (s.next ≤ slots + 1) };
+    ghost invariant = { λ s. (1 ≤ s.next) × (s.last ≤ slots) };
 }
 
 impl Iterator for Slots {
@@ -118,13 +133,9 @@ impl Iterator for Slots {
 
     ghost remaining = { item_count (λ s. s) };
 
-    #[tactic(auto, using(crate::proofs::Walks::numbers_from_next, crate::proofs::Walks::numbers_from_end))]
-    fn next(&mut self) -> Option<SlotNumber>
-        ensures steps { YieldsFirst (λ s. s) self.old result self.new }
-        ensures goes { MakesProgress (λ _. ⊤) (item_count (λ s. s)) self.old result self.new }
-        ensures range { IfSome result IsOneTo480 }
-    {
-        if self.next > LAST {
+    #[tactic(auto, using(crate::proofs::Walks::numbers_between_next, crate::proofs::Walks::numbers_between_end))]
+    fn next(&mut self) -> Option<SlotNumber> {
+        if self.next > self.last {
             return None;
         }
         let slot = SlotNumber { number: self.next };
