@@ -1,4 +1,4 @@
--- A frame's payload of 7,920 bytes: slot k holds its bits 132 (k - 1) to 132 k - 1.
+-- A frame's payload: 480 slots of 132 bits, two blocks of 66 each, one slot behind the other. They fill its 7,920 bytes with no bit over.
 use Rattle.std.specs.Prelude.{ℕ, Bool, ◌-◌, ◌*◌, List, map, take, drop}
 use Rattle.std.specs.List.{range_with_len, flat_map}
 use Rattle.block.specs.declared.Pair.{Pair}
