@@ -4,7 +4,7 @@
 #![tactic(auto)]
 
 ghost use Rattle.std.specs.Prelude.{◌≡◌, ℕ, ◌/◌, ◌^◌, ◌<◌};
-ghost use Rattle.crc.specs.Bits.{field, Numbered};
+ghost use Rattle.bits.specs.Bits.{field};
 ghost use Rattle.crc.specs.Laws.{Detecting, Detects, Known, Laws};
 ghost use Rattle.crc.specs.Remainder.{remainder as rest, step};
 
@@ -87,12 +87,6 @@ pub fn laws_hold()
 /// Which changes no word hides, for every generator with an even number of terms and constant term 1.
 pub fn detection_holds()
     ensures { (w G n : ℕ) → Detecting w G n → Detects w G n }
-{}
-
-/// How the bits of bytes are numbered.
-#[tactic(auto, using(crate::proofs::Places::numbered))]
-pub fn numbering_holds()
-    ensures { Numbered }
 {}
 
 #[cfg(test)]

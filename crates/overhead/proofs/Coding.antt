@@ -4,8 +4,8 @@ use Rattle.std.specs.Prelude.{IfOk}
 use Rattle.std.proofs.lemmas.List.{length-take-le}
 use Rattle.std.proofs.lemmas.Bool.Decides.{nat_tests}
 use Rattle.std.proofs.Math.Nat.{pow-succ'}
-use Rattle.crc.specs.Bits.{bits, field, high_first, low_value, packed}
-use Rattle.crc.proofs.Places.{numbered}
+use Rattle.bits.specs.Bits.{bits, field, high_first, low_value, packed}
+use Rattle.bits.proofs.Places.{numbered}
 use Rattle.numbers.specs.Entries.{entry_of, is_entry}
 use Rattle.overhead.specs.declared.Overhead.{Overhead}
 use Rattle.overhead.specs.Format.{Fields, answered, covered_bits, fields_in, fields_of, found, overhead_bits, overhead_bytes, read_bytes, read_word}

@@ -3,7 +3,7 @@
 --   bits 49 to 55  the remainder of bits 10 to 48               each the highest bit first
 -- All other bits are sent as zero and not read.
 use Rattle.std.specs.Prelude.{ℕ, Bool, false, if◌then◌else◌, not, List, ◌++◌, take, drop, replicate, Ok, Err, Result, ◌==◌, nat_lt}
-use Rattle.crc.specs.Bits.{high_first, packed, field}
+use Rattle.bits.specs.Bits.{high_first, packed, field}
 use Rattle.crc.specs.Remainder.{remainder}
 use Rattle.crc.specs.Laws.{value}
 use Rattle.numbers.specs.Entries.{entry_of}

@@ -1,6 +1,6 @@
 -- What the overhead's format promises.
 use Rattle.std.specs.Prelude.{◌≡◌, ℕ, ◌<◌, ◌≤◌, Bool, true, false, List, [], ◌∷◌, ◌++◌, length, replicate, Ok, Err, slice_index, slice_set}
-use Rattle.crc.specs.Bits.{bits, field}
+use Rattle.bits.specs.Bits.{bits, field}
 use Rattle.crc.specs.Laws.{xors, weight}
 use Rattle.overhead.specs.Format.{Fields, fields_of, overhead_bits, overhead_bytes, read_bytes}
 use Rattle.numbers.specs.Entries.{is_entry}

@@ -5,7 +5,7 @@
 #![tactic(auto)]
 
 ghost use Rattle.std.specs.Prelude.{◌≡◌, ◌≤◌, length, IfOk, Ok, Err, string_bytes};
-ghost use Rattle.crc.specs.Bits.{field};
+ghost use Rattle.bits.specs.Bits.{field};
 ghost use Rattle.crc.specs.Remainder.{remainder};
 ghost use Rattle.numbers.specs.Range.{checked};
 ghost use Rattle.overhead.specs.Format.{fields_of, read_bytes};

@@ -2,7 +2,7 @@
 use Rattle.std.specs.Prelude.{ℕ, [], ◌∷◌, ◌≡◌}
 use Rattle.block.specs.declared.Block.{Block}
 use Rattle.block.specs.declared.Sync.TheVariants.{Control}
-use Rattle.crc.specs.Bits.{field}
+use Rattle.bits.specs.Bits.{field}
 use Rattle.crc.specs.Remainder.{remainder}
 use Rattle.overhead.specs.Laws.{WorkedOverheads}
 use Rattle.frame.specs.SlotStarts.{SlotStarts}
