@@ -10,9 +10,9 @@ use Rattle.std.proofs.lemmas.Bool.{cases_eq}
 use Rattle.block.specs.declared.Block.{Block}
 use Rattle.block.specs.Classes.{class_of}
 use Rattle.block.specs.Fixed.{start_block}
-use Rattle.payload.specs.Bits.{splice}
-use Rattle.payload.proofs.Reading.{take_add}
-use Rattle.payload.proofs.Writing.{splice_next}
+use Rattle.bits.specs.Splices.{splice}
+use Rattle.std.proofs.Math.Seq.{take-add}
+use Rattle.bits.proofs.Splices.{splice_next}
 use Rattle.frame.specs.Frames.{FrameRestored, Shaped, carried_by, frame_block, frame_of, stored, stored_from}
 use Rattle.frame.proofs.Carried.{frame_data}
 use Rattle.frame.proofs.Storing.{stored_data}
@@ -53,7 +53,7 @@ joined_eight (b ∷ bs) F f =
     ∙ ap (λ (l : List ℕ). take 8 F ++ l) (joined_eight bs (drop 8 F) (λ j h.
     let g : 8 * suc j ≡ 8 + 8 * j = omega arith in
     f (suc j) (omega arith) ∙ ap (λ (n : ℕ). take 8 (drop n F)) g ∙ ap (λ (l : List ℕ). take 8 l) (sym (drop-drop (8 * j) 8 F))))
-    ∙ sym (ap (λ (n : ℕ). take n F) e ∙ take_add 8 (8 * length bs) F)
+    ∙ sym (ap (λ (n : ℕ). take n F) e ∙ take-add 8 (8 * length bs) F)
 
 -- what a frame carries is what it was made of
 pub frame_carries : (F : List ℕ) → carried_by (frame_of F) ≡ F

@@ -3,7 +3,7 @@ use Rattle.std.proofs.Common.{◌≡◌, ℕ, suc, ◌+◌, ◌-◌, ◌*◌, �
 use Rattle.std.specs.Prelude.{Some, slice_get}
 use Rattle.std.specs.Option.{option_map}
 use Rattle.std.proofs.lemmas.Bool.{cases_eq}
-use Rattle.std.proofs.lemmas.List.{append-nil, drop_all, drop_at, drop_more, drop-append-le, drop-take, ext_get_or, get_or-take, length-take-le, take-append-drop, take-append-le, take_all, take_more, take-take}
+use Rattle.std.proofs.lemmas.List.{append-nil, drop_all, drop_at, drop_more, ext_get_or, get_or-take, length-take-le, take-append-drop, take_all, take_more}
 use Rattle.std.proofs.lemmas.Option.{slice_get-get_or}
 use Rattle.block.specs.declared.Block.{Block}
 use Rattle.block.specs.declared.Class.{Class}
@@ -12,8 +12,8 @@ use Rattle.block.specs.declared.Sync.TheVariants.{Control, Data as DataSync}
 use Rattle.block.specs.Classes.{class_of}
 use Rattle.block.specs.Fixed.{start_block}
 use Rattle.block.proofs.Blocks.{same_block}
-use Rattle.payload.specs.Bits.{splice}
-use Rattle.payload.proofs.Slots.{splice_same}
+use Rattle.bits.specs.Splices.{splice}
+use Rattle.bits.proofs.Splices.{splice_below, splice_same}
 use Rattle.frame.specs.Frames.{Shaped, frame_block, frame_of}
 use Rattle.frame.specs.Steps.{ByBlocks, CarriedStored, Closes, Grows, InParts, Leaves, Opens}
 use Rattle.frame.proofs.Carried.{frame_data}
@@ -28,18 +28,6 @@ leaves F n h =
 
 pub opens : Opens
 opens F = take_more (frame_of F) 0 start_block (omega (arith, frame_length F)) ∙ ap (λ (b : Block). b ∷ []) (frame_at F 0 start_block (omega arith))
-
--- what lies below new bytes stays
-splice_below : (s t n : ℕ) (new old : List ℕ) → s ≤ length old → t + n ≤ s → take n (drop t (splice s new old)) ≡ take n (drop t old)
-splice_below s t n new old h k =
-    let R : List ℕ = new ++ drop (s + length new) old in
-    let a : length (take s old) ≡ s = length-take-le s old h in
-    let e : t + (s - t) ≡ s = omega arith in
-    let m : drop t (take s old) ≡ take (s - t) (drop t old) = ap (λ (z : ℕ). drop t (take z old)) (sym e) ∙ drop-take t (s - t) old in
-    let l : length (drop t (take s old)) ≡ s - t = length-drop t (take s old) ∙ ap (λ (z : ℕ). z - t) a in
-    ap (λ (z : List ℕ). take n z) (drop-append-le t (take s old) R (omega arith))
-    ∙ take-append-le n (drop t (take s old)) R (omega arith)
-    ∙ ap (λ (z : List ℕ). take n z) m ∙ take-take n (s - t) (drop t old) (omega arith)
 
 -- a block below the bytes that are stored stays
 block_below : (F new : List ℕ) (s i : ℕ) → s ≤ length F → 8 * i ≤ s → i < 991 → frame_block (splice s new F) (i + 1) ≡ frame_block F (i + 1)

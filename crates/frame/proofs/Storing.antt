@@ -3,8 +3,8 @@ use Rattle.std.proofs.Common.{◌≡◌, ℕ, ◌+◌, ◌-◌, ◌*◌, false, 
 use borrow.Rule.Slice.PartMut.{put_mid}
 use Rattle.std.proofs.lemmas.List.{drop_all, drop_at, drop-drop, drop_more, set_split, take-append-drop, take_at}
 use Rattle.std.proofs.lemmas.Bool.{cond-false, ne_eqb}
-use Rattle.payload.specs.Bits.{splice}
-use Rattle.payload.proofs.Reading.{take_add}
+use Rattle.bits.specs.Splices.{splice}
+use Rattle.std.proofs.Math.Seq.{take-add}
 use Rattle.frame.specs.Frames.{stored, with_data}
 use Rattle.frame.specs.Places.{is_data_place}
 use Rattle.frame.proofs.Carried.{listed, past}
@@ -35,7 +35,7 @@ first_written o p bs h k m =
 pub past_stored : (o p new : List ℕ) (at k : ℕ) → length o ≡ 7 → k ≡ 7 + at → o ++ splice at new p ≡ splice k new (o ++ p)
 past_stored o p new at k h e =
     let front : take k (o ++ p) ≡ o ++ take at p =
-    ap (λ (n : ℕ). take n (o ++ p)) e ∙ take_add 7 at (o ++ p)
+    ap (λ (n : ℕ). take n (o ++ p)) e ∙ take-add 7 at (o ++ p)
     ∙ ap (λ (l : List ℕ). l ++ take at (drop 7 (o ++ p))) (take_at o p 7 h) ∙ ap (λ (l : List ℕ). o ++ take at l) (drop_at o p 7 h) in
     sym (append_assoc o (take at p) (new ++ drop (at + length new) p))
     ∙ ap (λ (l : List ℕ). l ++ (new ++ drop (at + length new) p)) (sym front)

@@ -7,7 +7,7 @@ use Rattle.block.specs.declared.Sync.TheVariants.{Control, Data}
 use Rattle.block.specs.declared.Class.TheVariants.{Data as DataClass, End}
 use Rattle.block.specs.Classes.{class_of}
 use Rattle.block.specs.Fixed.{start_block}
-use Rattle.payload.specs.Bits.{splice}
+use Rattle.bits.specs.Splices.{splice}
 use Rattle.frame.specs.Places.{frame_blocks, is_data_place}
 
 -- the block at a place of the frame that carries these bytes: data blocks take eight each, the end block the last seven

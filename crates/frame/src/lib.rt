@@ -9,7 +9,7 @@ ghost use Rattle.frame.specs.Places.{IsPlace, is_data_place};
 ghost use Rattle.frame.specs.Steps.{ByBlocks};
 ghost use Rattle.frame.specs.SlotStarts.{SlotStarts, SlotsBeginThere, slot_start};
 ghost use Rattle.numbers.specs.Range.{IsOneTo480};
-ghost use Rattle.payload.specs.Bits.{splice};
+ghost use Rattle.bits.specs.Splices.{splice};
 
 /// Places of blocks in a frame.
 pub mod place;

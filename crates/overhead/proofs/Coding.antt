@@ -1,10 +1,9 @@
 -- The overheads of all fields in range.
-use Rattle.std.proofs.Common.{◌≡◌, ℕ, zero, suc, ◌*◌, ◌^◌, ◌<◌, Bool, true, false, cond, ltb, List, [], ◌∷◌, length, get_or, take, drop, Some, None, Option, Ok, Err, Result, refl, ap, ap₂, subst, ◌∙◌, arith, length-drop, pow_pos}
+use Rattle.std.proofs.Common.{◌≡◌, ℕ, ◌<◌, Bool, true, false, cond, ltb, List, length, get_or, Some, None, Option, Ok, Err, Result, refl, ap, ap₂, subst, ◌∙◌, arith}
 use Rattle.std.specs.Prelude.{IfOk}
-use Rattle.std.proofs.lemmas.List.{length-take-le}
 use Rattle.std.proofs.lemmas.Bool.Decides.{nat_tests}
-use Rattle.std.proofs.Math.Nat.{pow-succ'}
-use Rattle.bits.specs.Bits.{bits, field, high_first, low_value, packed}
+use Rattle.bits.specs.Bits.{bits, field, high_first}
+use Rattle.bits.proofs.Packing.{length_packed, packed_below}
 use Rattle.bits.proofs.Places.{numbered}
 use Rattle.numbers.specs.Entries.{entry_of, is_entry}
 use Rattle.overhead.specs.declared.Overhead.{Overhead}
@@ -19,35 +18,16 @@ unfolding overhead_bits covered_bits high_first
 overhead_length f = refl
 
 pub overhead_seven : (f : Fields) → length (overhead_bytes f) ≡ 7
-unfolding overhead_bytes packed
-overhead_seven f = refl
+unfolding overhead_bytes
+overhead_seven f = length_packed 7 (overhead_bits f)
 
 pub overhead_sent : (f : Fields) → bits (overhead_bytes f) ≡ overhead_bits f
 unfolding overhead_bytes
 overhead_sent f = numbered.unpacks 7 (overhead_bits f) (overhead_length f)
 
-low_below : (bs : List Bool) (n : ℕ) → length bs ≡ n → low_value bs < 2 ^ n
-low_below [] n e = omega (arith, pow_pos n)
-low_below (true ∷ bs) zero e = absurd (omega arith)
-low_below (true ∷ bs) (suc n) e =
-    let p = pow-succ' 2 n in
-    let r = low_below bs n (omega arith) in
-    omega arith
-low_below (false ∷ bs) zero e = absurd (omega arith)
-low_below (false ∷ bs) (suc n) e =
-    let p = pow-succ' 2 n in
-    let r = low_below bs n (omega arith) in
-    omega arith
-
-packed_bytes : (n : ℕ) (bs : List Bool) → length bs ≡ 8 * n → (i : ℕ) → get_or (packed n bs) i 0 < 256
-unfolding packed
-packed_bytes zero bs e i = omega arith
-packed_bytes (suc n) bs e zero = low_below (take 8 bs) 8 (length-take-le 8 bs (omega arith))
-packed_bytes (suc n) bs e (suc i) = packed_bytes n (drop 8 bs) (length-drop 8 bs ∙ omega arith) i
-
 overhead_is_bytes : (f : Fields) (i : ℕ) → get_or (overhead_bytes f) i 0 < 256
 unfolding overhead_bytes
-overhead_is_bytes f i = packed_bytes 7 (overhead_bits f) (overhead_length f) i
+overhead_is_bytes f i = packed_below 7 (overhead_bits f) i
 
 seven_bytes : (f : Fields) → SevenBytes f
 seven_bytes f = record { seven = overhead_seven f; bytes = overhead_is_bytes f; sent = overhead_sent f }

@@ -1,6 +1,6 @@
 use Rattle.std.proofs.Common.{◌≡◌, ℕ, List, ◌++◌, take, drop, sym, ap, ◌∙◌, arith}
 use Rattle.std.proofs.lemmas.List.{length-drop, take_all}
-use Rattle.payload.specs.Bits.{splice}
+use Rattle.bits.specs.Splices.{splice}
 use Rattle.frame.specs.Frames.{stored}
 use Rattle.frame.proofs.Storing.{none_stored, past_stored}
 use Rattle.frame.proofs.store_block.Goals as goal
