@@ -1,6 +1,8 @@
 //! Measures packing and unpacking: ten thousand payloads each way, each a little other than the one before.
 //! Standard output has the number of blocks moved and a checksum, standard error the time a block took, in hundredths of a nanosecond.
-//! Main promise: the blocks counted are those that were packed and unpacked, and the payload summed up is that of the pairs.
+//! Main promise: `pack_rounds` leaves the payload of the pairs as they then are, `unpack_rounds` the pairs of the payload, and each answers
+//! 9,600,000. That each round packs or unpacks is in no clause, and a body that did so once would meet them: the checksum, which the gate
+//! compares, depends on the rounds.
 #![tactic(auto)]
 
 ghost use Rattle.std.specs.Prelude.{◌≡◌, ◌*◌, fold};
@@ -52,7 +54,7 @@ fn fill(pairs: &mut [Pair; 480])
     }
 }
 
-// Packs again and again, and answers the number of blocks moved.
+// Packs again and again, and answers the number of blocks that so many rounds move.
 // This and `unpack_rounds` are two, since they differ in the byte changed and in the buffer made: one over a closure has only the count
 // in common.
 fn pack_rounds(pairs: &mut [Pair; 480], payload: &mut Payload) -> u64
@@ -70,7 +72,7 @@ fn pack_rounds(pairs: &mut [Pair; 480], payload: &mut Payload) -> u64
     moved
 }
 
-// Unpacks again and again, and answers the number of blocks moved.
+// Unpacks again and again, and answers the number of blocks that so many rounds move.
 fn unpack_rounds(payload: &mut Payload, pairs: &mut [Pair; 480]) -> u64
     ensures moved { result ≡ 9600000 }
     ensures unpacked { pairs.new ≡ pairs_of payload.new }

@@ -50,8 +50,8 @@ impl Calendar {
         self.entries[i] = Some(client);
     }
 
-    // A pair, and 0 for none: count and first slot are told together, in the form in which they are printed.
-    /// A client's slot count and its first, the lowest, slot; 0 and 0 if it has none.
+    // A pair, and 0 for none: whoever prints a client's line wants both, and so of one calendar.
+    /// How many slots a client has, and the lowest of them; two zeros where it has none.
     pub fn share(&self, client: ClientNumber) -> (u16, u16)
         ensures count { result.0 ≡ slot_count client (entries_of self.now) }
         ensures first { result.1 ≡ first_slot client (entries_of self.now) }

@@ -1,6 +1,7 @@
--- What is reported whole: exactly the messages whose blocks came in a row for their collection.
+-- What is reported whole: a message whose blocks came in a row for their collection and leave the remainder 0; and, by a new collector,
+-- no other but a basic one.
 use Rattle.std.specs.Prelude.{◌≡◌, ℕ, ◌*◌, ◌<◌, ◌≤◌, Bool, true, false, if◌then◌else◌, not, ◌&&◌, List, [], ◌∷◌, ◌++◌, length, take, Some, None, Ok, Err, Option, ◌≢◌}
-use Rattle.crc.specs.Bits.{bits}
+use Rattle.bits.specs.Bits.{bits}
 use Rattle.crc.specs.Laws.{weight, xors}
 use Rattle.message.specs.declared.Kind.{Kind}
 use Rattle.message.specs.declared.Kind.TheVariants.{Basic, TwoDmm}
@@ -64,8 +65,8 @@ pub record FoundWhole (s : State) (before : List Call) (b : MessageBlock) (k : K
 pub record Laws : Type 0 where
   -- a collector never loses a place
   pub sized : (s : State) (cs : List Call) → Sized s → Sized (run s cs)
-  -- From any state, and with any blocks of basic messages, unknown kinds or the other collection, and questions collected, between its own,
-  -- a message whose blocks have come in a row is found whole at its last block, with its values.
+  -- From any state that has its seven places, and with any blocks of basic messages, unknown kinds or the other collection, and questions
+  -- collected, between its own, a message whose blocks have come in a row is found whole at its last block, with its values.
   pub whole_found : (s : State) (before : List Call) (b : MessageBlock) (k : Kind) (us : List ℕ)
       → Sized s → Completes before b k us → FoundWhole s before b k us
   -- So is what the writer makes of lawful values.

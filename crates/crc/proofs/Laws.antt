@@ -3,10 +3,10 @@ use Rattle.std.proofs.Common.{◌≡◌, ℕ, zero, suc, ◌+◌, ◌*◌, ◌/�
 use Rattle.std.proofs.Math.Nat.{zero-div, zero-mod, mul-mod_left, eq_of_mul-eq-mul_right, div-eq_of_lt, pow-succ'}
 use Rattle.std.proofs.lemmas.Nat.{shr_high, mod_low, xor_comm, xor_shr, xor_mod, xor_lt, xor_block, mod-pow-add, ones_cat}
 use Rattle.std.specs.Int.Bits.{bit_xor, xor_assoc, xor_self, xor_zero_r, xor_shifted, shifted_even}
-use Rattle.std.proofs.Math.Pow.{field, mod-mod-pow}
 use Rattle.std.proofs.Math.Arith.{bin_ind}
 use Rattle.std.specs.Int.Count.{ones, ones_step}
-use Rattle.crc.specs.Bits.{odd, high_first}
+use Rattle.bits.specs.Bits.{odd, high_first}
+use Rattle.bits.proofs.Digits.{digit, high_mod}
 use Rattle.crc.specs.Remainder.{scale, reduce, step, run, remainder}
 use Rattle.crc.specs.Laws.{times, value, Divided, xorb, xors, weight}
 
@@ -31,14 +31,6 @@ xor_shl a b k = sym (simp add-zero at (xor_block k a b 0 0 (pow_pos k) (pow_pos 
 pub xor_over : (a b c : ℕ) → bit_xor a b ≡ c → a ≡ bit_xor c b
 xor_over a b c e =
     sym (xor_zero_r a) ∙ ap (bit_xor a) (sym (xor_self b)) ∙ sym (xor_assoc a b b) ∙ ap (λ (x : ℕ). bit_xor x b) e
-
-below_two : (x : ℕ) → x < 2 → (x ≡ 0) ⊎ (x ≡ 1)
-below_two zero h = inl refl
-below_two (suc zero) h = inr refl
-below_two (suc (suc x)) h = absurd (omega arith)
-
-pub digit : (n : ℕ) → (n % 2 ≡ 0) ⊎ (n % 2 ≡ 1)
-digit n = below_two (n % 2) (omega arith)
 
 digit_mul' : (x y G : ℕ) → x < 2 → y < 2 → bit_xor x y * G ≡ bit_xor (x * G) (y * G)
 digit_mul' zero y G hx hy = simp zero-mul
@@ -335,18 +327,6 @@ value_lt (true ∷ bs) =
     let e : bit_xor (1 * 2 ^ length bs) (value bs) ≡ 1 * 2 ^ length bs + value bs = xor_shifted 1 (length bs) (value bs) ih in
     omega (arith, pow-suc 2 (length bs), e)
 value_lt (false ∷ bs) = omega (arith, pow-suc 2 (length bs), value_lt bs)
-
--- digits above the k lowest are not looked at
-pub high_mod : (k a b : ℕ) → a % 2 ^ k ≡ b % 2 ^ k → high_first k a ≡ high_first k b
-unfolding high_first
-high_mod zero a b h = refl
-high_mod (suc k) a b h =
-    ap₂ (λ (x : Bool) (xs : List Bool). x ∷ xs)
-    (ap (λ (x : ℕ). eqb x 1) (sym (field a 1 k) ∙ ap (λ (x : ℕ). x / 2 ^ k) h' ∙ field b 1 k))
-    (high_mod k a b (sym (mod-mod-pow a 1 k) ∙ ap (λ (x : ℕ). x % 2 ^ k) h' ∙ mod-mod-pow b 1 k))
-  where
-    h' : a % 2 ^ (1 + k) ≡ b % 2 ^ (1 + k)
-    h' = ap (λ (x : ℕ). a % 2 ^ x) (one-add k) ∙ h ∙ ap (λ (x : ℕ). b % 2 ^ x) (sym (one-add k))
 
 -- the highest digit, and the others
 scale_digit : (b : Bool) → odd (scale b 1) ≡ b

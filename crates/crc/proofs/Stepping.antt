@@ -3,7 +3,7 @@ use Rattle.std.proofs.Common.{◌≡◌, ℕ, ◌+◌, ◌*◌, ◌/◌, ◌%◌
 use Rattle.std.proofs.lemmas.Nat.{one_shl, and_mask, xor_lt}
 use Rattle.std.specs.Int.Bits.{bit_and, bit_xor, xor_zero_r}
 use mir.Val.{bool_byte}
-use Rattle.crc.specs.Bits.{odd}
+use Rattle.bits.specs.Bits.{odd}
 use Rattle.crc.specs.Remainder.{scale, reduce, step}
 use Rattle.crc.proofs.Laws.{pow_more}
 

@@ -1,6 +1,6 @@
 -- What a remainder is, its laws, and which errors it shows: once over the degree w and the generator G.
 use Rattle.std.specs.Prelude.{◌≡◌, ℕ, zero, suc, ◌*◌, ◌/◌, ◌%◌, ◌^◌, ◌<◌, ◌≤◌, Bool, true, false, List, [], ◌∷◌, ◌++◌, length, replicate, ◌≢◌, bit_xor, count_ones}
-use Rattle.crc.specs.Bits.{high_first}
+use Rattle.bits.specs.Bits.{high_first}
 use Rattle.crc.specs.Remainder.{scale, step, remainder}
 
 -- the product of G and the polynomial that bits stand for, the first bit its highest coefficient

@@ -1,10 +1,11 @@
 //! Cyclic remainders (CRC) over a field of bits, once for every degree and generator; those of degree 7 and 12 are made here.
 //! Main promise: `remainder` is the remainder that the division of the field by the generator over GF(2) leaves (`laws_hold`),
-//! and between words that leave 0 no change of one, two or three bits goes unseen (`degree_seven`, `degree_twelve`).
+//! and two words of at most 63 bits (degree 7) or 2,047 bits (degree 12) that leave 0 do not differ in just one, two or three bits
+//! (`degree_seven`, `degree_twelve`).
 #![tactic(auto)]
 
 ghost use Rattle.std.specs.Prelude.{◌≡◌, ℕ, ◌/◌, ◌^◌, ◌<◌};
-ghost use Rattle.crc.specs.Bits.{field, Numbered};
+ghost use Rattle.bits.specs.Bits.{field};
 ghost use Rattle.crc.specs.Laws.{Detecting, Detects, Known, Laws};
 ghost use Rattle.crc.specs.Remainder.{remainder as rest, step};
 
@@ -84,15 +85,10 @@ pub fn laws_hold()
     ensures known { Known }
 {}
 
-/// Which changes no word hides, for every generator with an even number of terms and constant term 1.
+/// Which changes no word hides, for every generator with an even number of terms and constant term 1: up to three bits in words that are
+/// not longer than the order of x, and any within as many neighbouring bits as the degree.
 pub fn detection_holds()
     ensures { (w G n : ℕ) → Detecting w G n → Detects w G n }
-{}
-
-/// How the bits of bytes are numbered.
-#[tactic(auto, using(crate::proofs::Places::numbered))]
-pub fn numbering_holds()
-    ensures { Numbered }
 {}
 
 #[cfg(test)]

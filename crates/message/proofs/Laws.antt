@@ -1,9 +1,9 @@
 -- The laws of what is written.
 use Rattle.std.proofs.Common.{◌≡◌, ℕ, zero, suc, ◌+◌, ◌-◌, ◌*◌, ◌≤◌, Bool, List, ◌++◌, length, take, drop, refl, ap, ◌∙◌, ap₂, arith}
 use Rattle.std.proofs.lemmas.List.{length-append, length-take-le, take_at}
-use Rattle.crc.specs.Bits.{bits, field, high_first, packed}
+use Rattle.bits.specs.Bits.{bits, field, high_first, packed}
 use Rattle.crc.proofs.Laws.{appended}
-use Rattle.crc.proofs.Places.{length_bits}
+use Rattle.bits.proofs.Places.{length_bits}
 use Rattle.message.specs.Values.{covered, crc12, filled}
 use Rattle.message.specs.Written.{Laws}
 use Rattle.message.proofs.Tails.{filled_bits}

@@ -1,7 +1,7 @@
 -- Every message block is read as what it was made from.
 use Rattle.std.proofs.Common.{◌≡◌, ℕ, suc, ◌+◌, Bool, true, false, eqb, List, [], ◌∷◌, Some, None, Option, refl, ap, ◌∙◌}
 use Rattle.block.specs.declared.Block.{Block}
-use Rattle.crc.specs.Bits.{low_first, high_first, bits, packed}
+use Rattle.bits.specs.Bits.{low_first, high_first, bits, packed}
 use Rattle.crc.specs.Remainder.{reduce, step}
 use Rattle.message.specs.declared.Kind.{Kind}
 use Rattle.message.specs.declared.Kind.TheVariants.{Basic, Aps, Cv, OneDm, TwoDmm, TwoDmr, Cs}

@@ -2,9 +2,9 @@
 use Rattle.std.proofs.Common.{◌≡◌, ℕ, zero, suc, ◌+◌, ◌-◌, ◌*◌, ◌/◌, ◌%◌, ◌^◌, ◌<◌, ◌≤◌, Bool, List, [], ◌∷◌, ◌++◌, length, get_or, take, drop, sym, refl, ap, ◌∙◌, ap₂, append_assoc, zero-add, div-one, arith, shr-shr}
 use Rattle.std.specs.Int.{reverse_bits_onto}
 use Rattle.std.proofs.lemmas.List.{append-nil, drop_more, length-append}
-use Rattle.crc.specs.Bits.{low_first, high_first, bits, field, packed}
-use Rattle.crc.proofs.Digits.{low_join, low_mod, low_reversed, length_high}
-use Rattle.crc.proofs.Places.{numbered, length_low}
+use Rattle.bits.specs.Bits.{low_first, high_first, bits, field, packed}
+use Rattle.bits.proofs.Digits.{low_join, low_mod, low_reversed, length_high}
+use Rattle.bits.proofs.Places.{numbered, length_low}
 use Rattle.message.specs.Values.{covered, crc12, filled}
 
 -- digits turned round, in two parts

@@ -1,6 +1,7 @@
--- The value bytes of a message: two a block. Their last 12 bits are the remainder of the bits before, by x^12 + x^11 + x^3 + x^2 + x + 1.
+-- The value bytes of a message: two a block. Their last 12 bits are the remainder of the bits before, by x^12 + x^11 + x^3 + x^2 + x + 1;
+-- the writer is given them with zeros there, since it fills them in.
 use Rattle.std.specs.Prelude.{ℕ, suc, ◌-◌, ◌*◌, Bool, true, false, not, ◌&&◌, List, [], ◌∷◌, ◌++◌, length, take, ◌==◌, nat_lt, slice_index}
-use Rattle.crc.specs.Bits.{field, high_first, packed}
+use Rattle.bits.specs.Bits.{field, high_first, packed}
 use Rattle.crc.specs.Remainder.{remainder}
 use Rattle.message.specs.declared.Kind.{Kind}
 use Rattle.message.specs.declared.Kind.TheVariants.{Basic, Aps, Cv, OneDm, TwoDmm, TwoDmr, Cs}

@@ -5,12 +5,12 @@ use Rattle.std.proofs.lemmas.Nat.{and_mask}
 use Rattle.std.specs.Int.{reverse_bits_onto}
 use Rattle.std.proofs.lemmas.List.{length-take, length-drop, take-append-drop, take-take, same_lists, places}
 use Rattle.std.proofs.lemmas.Bool.{eq-eqb, ne_eqb, le-ltb}
-use Rattle.crc.specs.Bits.{low_first, high_first, bits, field}
+use Rattle.bits.specs.Bits.{low_first, high_first, bits, field}
 use Rattle.crc.specs.Laws.{value, Detects}
 use Rattle.crc.specs.Remainder.{remainder}
 use Rattle.crc.proofs.Laws.{run_lt, appended, high_value}
-use Rattle.crc.proofs.Places.{length_bits}
-use Rattle.crc.proofs.Digits.{value_high}
+use Rattle.bits.proofs.Places.{length_bits}
+use Rattle.crc.proofs.Values.{value_high}
 use Rattle.crc.proofs.Detect.{detects}
 use Rattle.crc.proofs.Generators.{seven}
 use Rattle.overhead.specs.Format.{Fields, fields_in, covered_bits, overhead_bits, remainder_of, read_word, read_bytes}

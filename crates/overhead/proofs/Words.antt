@@ -1,9 +1,9 @@
 -- The first four bytes as one word, and the numbers in it turned round.
 use Rattle.std.proofs.Common.{◌≡◌, ℕ, ◌+◌, ◌*◌, ◌/◌, ◌%◌, ◌^◌, ◌<◌, Bool, false, List, [], ◌∷◌, ◌++◌, take, drop, replicate, sym, ap, ◌∙◌, ap₂, arith}
 use Rattle.std.specs.Int.{reverse_bits_onto}
-use Rattle.crc.specs.Bits.{low_first, high_first, bits, field}
-use Rattle.crc.proofs.Laws.{high_mod}
-use Rattle.crc.proofs.Digits.{low_join, high_join, low_zeros, high_zeros, low_mod, low_reversed, high_reversed}
+use Rattle.bits.specs.Bits.{low_first, high_first, bits, field}
+use Rattle.bits.proofs.Digits.{high_mod}
+use Rattle.bits.proofs.Digits.{low_join, high_join, low_zeros, high_zeros, low_mod, low_reversed, high_reversed}
 
 -- the number that four bytes write, the lowest byte first
 abbrev pub word_of : ℕ → ℕ → ℕ → ℕ → ℕ

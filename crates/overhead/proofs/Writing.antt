@@ -3,9 +3,9 @@ use Rattle.std.proofs.Common.{◌≡◌, ℕ, zero, suc, ◌+◌, ◌*◌, ◌/�
 use Rattle.std.specs.Int.Bits.{bit_or}
 use Rattle.std.specs.Int.{reverse_bits_onto}
 use Rattle.std.proofs.lemmas.Nat.{or_shifted}
-use Rattle.crc.specs.Bits.{odd, low_first, high_first, bits, field, packed}
-use Rattle.crc.proofs.Places.{numbered}
-use Rattle.crc.proofs.Digits.{low_reversed}
+use Rattle.bits.specs.Bits.{odd, low_first, high_first, bits, field, packed}
+use Rattle.bits.proofs.Places.{numbered}
+use Rattle.bits.proofs.Digits.{low_reversed}
 use Rattle.std.proofs.lemmas.Bool.Decides.{nat_tests}
 use Rattle.numbers.specs.Entries.{entry_of, is_entry}
 use Rattle.overhead.specs.Format.{Fields, covered_bits, overhead_bits, overhead_bytes, remainder_of}

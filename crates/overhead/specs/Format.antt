@@ -1,9 +1,11 @@
--- The seven overhead bytes of a frame, as 56 bits numbered from 0 in the order of sending:
---   bits 10 to 19  the client number announced, 0 for none      bits 20 to 28  the frame number
---   bits 49 to 55  the remainder of bits 10 to 48               each the highest bit first
--- All other bits are sent as zero and not read.
+-- The seven overhead bytes of a frame, as 56 bits numbered from 0 in the order of sending; a field of several bits has its highest first.
+--   0 to 9    zero when sent; a reader does not look at them
+--   10 to 19  the client number announced, 0 for none
+--   20 to 28  the frame number
+--   29 to 48  zero when sent; the remainder covers them, and a reader whose remainder fits takes any values
+--   49 to 55  the remainder of bits 10 to 48
 use Rattle.std.specs.Prelude.{ℕ, Bool, false, if◌then◌else◌, not, List, ◌++◌, take, drop, replicate, Ok, Err, Result, ◌==◌, nat_lt}
-use Rattle.crc.specs.Bits.{high_first, packed, field}
+use Rattle.bits.specs.Bits.{high_first, packed, field}
 use Rattle.crc.specs.Remainder.{remainder}
 use Rattle.crc.specs.Laws.{value}
 use Rattle.numbers.specs.Entries.{entry_of}

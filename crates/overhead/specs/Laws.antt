@@ -1,6 +1,6 @@
 -- What the overhead's format promises.
 use Rattle.std.specs.Prelude.{◌≡◌, ℕ, ◌<◌, ◌≤◌, Bool, false, List, [], ◌∷◌, ◌++◌, length, replicate, Err, slice_set}
-use Rattle.crc.specs.Bits.{field}
+use Rattle.bits.specs.Bits.{field}
 use Rattle.crc.specs.Laws.{xors, weight}
 use Rattle.overhead.specs.Format.{Fields, overhead_bytes, read_bytes}
 use Rattle.overhead.specs.declared.OverheadFault.TheVariants.{WrongRemainder}

@@ -5,7 +5,7 @@
 #![tactic(auto)]
 
 ghost use Rattle.std.specs.Prelude.{◌≡◌, ◌<◌, IfOk, Ok, true};
-ghost use Rattle.crc.specs.Bits.{bits};
+ghost use Rattle.bits.specs.Bits.{bits};
 ghost use Rattle.numbers.specs.Entries.{is_entry};
 ghost use Rattle.overhead.specs.Entry.{answered_entry, read_entry, read_frame_number};
 ghost use Rattle.overhead.specs.Format.{answered, fields_of, overhead_bits, overhead_bytes, read_bytes};

@@ -1,4 +1,3 @@
-pub mod Bits
 pub mod Pairs
 pub mod Payloads
 pub mod Places

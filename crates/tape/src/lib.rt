@@ -1,5 +1,5 @@
 //! A tape: a store of blocks in one queue over lent entries, each tagged with its client; all clients share the places.
-//! A client has as many free places as the tape has places less all the blocks it holds; a removed block frees its place.
+//! A place that holds one client's block is free for nobody; once the block is taken out it is free for everybody.
 //! Main promise: the tape is an inlet and an outlet, and the list it holds for a client is the list that waits for it.
 #![tactic(auto)]
 

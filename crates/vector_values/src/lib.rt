@@ -1,11 +1,11 @@
-//! Worked values of the standard as the library computes them, written as text.
+//! Worked values of the formats as the library computes them, written as text.
 //! Each is computed by the call that a user of the library makes, with bad input refused as that call refuses it.
 //! Texts are `String`s, since they are compared with the text expected.
 //! Main promise: each text is that of the value which the definition behind the call gives.
 #![tactic(auto)]
 
 ghost use Rattle.std.specs.Prelude.{◌≡◌, ◌≤◌, length, IfOk, Ok, Err, string_bytes};
-ghost use Rattle.crc.specs.Bits.{field};
+ghost use Rattle.bits.specs.Bits.{field};
 ghost use Rattle.crc.specs.Remainder.{remainder};
 ghost use Rattle.numbers.specs.Range.{checked};
 ghost use Rattle.overhead.specs.Format.{fields_of, read_bytes};

@@ -2,10 +2,11 @@ use Rattle.std.proofs.Common.{◌≡◌, ℕ, ◌+◌, ◌*◌, List, get_or, sy
 use Rattle.std.specs.List.{flat_map}
 use Rattle.std.proofs.lemmas.List.{take_all}
 use Rattle.block.specs.declared.Pair.{Pair}
-use Rattle.payload.specs.Bits.{bits, splice}
+use Rattle.bits.specs.Bits.{bits}
+use Rattle.bits.specs.Splices.{splice}
 use Rattle.block.specs.Whole.{WholePair}
 use Rattle.payload.specs.Pairs.{pair_bits}
-use Rattle.payload.proofs.Laws.{length_bits}
+use Rattle.bits.proofs.Places.{length_bits}
 use Rattle.payload.proofs.Slots.{below_two, blank, packed_two, pairs_packed, payload_is}
 use Rattle.payload.proofs.pack.Goals as goal
 

@@ -1,5 +1,5 @@
 use Rattle.std.proofs.Common.{◌≡◌, ℕ, ◌^◌, ◌<◌, subst, ◌∙◌, ap₂}
-use Rattle.crc.specs.Bits.{field}
+use Rattle.bits.specs.Bits.{field}
 use Rattle.crc.specs.Remainder.{remainder}
 use Rattle.vector_values.proofs.Sevens.{seven_output}
 use Rattle.vector_values.proofs.remainder_text.Goals as goal

@@ -1,5 +1,5 @@
 use Rattle.std.proofs.Math.Path.{refl}
-use Rattle.crc.specs.Bits.{low_first, high_first, bits, packed}
+use Rattle.bits.specs.Bits.{low_first, high_first, bits, packed}
 use Rattle.crc.specs.Remainder.{step, reduce}
 use Rattle.overhead.specs.Format.{covered_bits, overhead_bits, overhead_bytes, read_word, read_bytes}
 use Rattle.packet.proofs.Blocks.{sixty_four}

@@ -1,5 +1,5 @@
 use Rattle.std.proofs.Common.{ℕ, ◌*◌, take, ap, ◌∙◌}
-use Rattle.crc.specs.Bits.{bits}
+use Rattle.bits.specs.Bits.{bits}
 use Rattle.message.specs.Values.{crc12}
 use Rattle.assembly.specs.Content.{Content}
 use Rattle.assembly.specs.Next.{answered}

@@ -1,7 +1,7 @@
 use Rattle.std.proofs.Common.{ℕ, ◌+◌, ◌/◌, ◌%◌, ◌^◌, List, length, get_or, sym, ap, ◌∙◌, arith, pow_pos}
-use Rattle.crc.specs.Bits.{field}
+use Rattle.bits.specs.Bits.{field}
 use Rattle.crc.specs.Remainder.{run, step}
-use Rattle.crc.proofs.Places.{field_step, field_none, field_cut, cut_at}
+use Rattle.bits.proofs.Places.{field_step, field_none, field_cut, cut_at}
 use Rattle.crc.proofs.Stepping.{code_bit}
 use Rattle.crc.proofs.Generator.remainder.Goals as goal
 

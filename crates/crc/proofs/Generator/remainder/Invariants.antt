@@ -1,5 +1,5 @@
 use Rattle.std.proofs.Common.{◌≡◌, ◌^◌, ◌<◌}
-use Rattle.crc.specs.Bits.{field}
+use Rattle.bits.specs.Bits.{field}
 use Rattle.crc.specs.Remainder.{run}
 use Rattle.crc.proofs.Generator.remainder.Given as goal
 

@@ -1,5 +1,5 @@
 use Rattle.std.proofs.Common.{◌≡◌, ℕ, ◌^◌, ◌<◌, ◌≤◌, List, [], ◌∷◌, get_or, refl, ap, ◌∙◌, subst, ap₂, arith}
-use Rattle.crc.specs.Bits.{bits, field}
+use Rattle.bits.specs.Bits.{bits, field}
 use Rattle.crc.specs.Remainder.{remainder}
 use Rattle.overhead.specs.Format.{Fields, fields_of, covered_bits, overhead_bits, remainder_of}
 use Rattle.overhead.proofs.Writing.{Turned, entry_small, turned_from, covered, written, bytes_written}

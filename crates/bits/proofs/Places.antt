@@ -2,8 +2,8 @@
 use Rattle.std.proofs.Common.{◌≡◌, ℕ, zero, suc, ◌+◌, ◌-◌, ◌*◌, ◌/◌, ◌%◌, ◌^◌, ◌<◌, ◌≤◌, min, Bool, true, false, eqb, ◌⊎◌, List, [], ◌∷◌, ◌++◌, length, get_or, take, drop, sym, refl, ap, ◌∙◌, ap₂, inl, inr, ⊎_elim, pow-suc, div-one, arith, shr-shr}
 use Rattle.std.proofs.lemmas.List.{length-append, get_or_append_left, get_or-append-add, drop_more, length-drop, take_all, take_at, drop_at, length-take-le, take-append-drop, nil_from_length}
 use Rattle.std.proofs.lemmas.Bool.{cases_lt}
-use Rattle.crc.specs.Bits.{odd, low_first, bits, field, low_value, packed, Numbered}
-use Rattle.crc.proofs.Laws.{digit}
+use Rattle.bits.specs.Bits.{odd, low_first, bits, field, low_value, packed, Numbered}
+use Rattle.bits.proofs.Digits.{digit}
 
 pub length_low : (k n : ℕ) → length (low_first k n) ≡ k
 unfolding low_first

@@ -1,13 +1,19 @@
--- Numbers written in bits, the lowest or the highest digit first: parts, zeros, numbers turned round, and reading back.
-use Rattle.std.proofs.Common.{◌≡◌, ℕ, zero, suc, ◌+◌, ◌*◌, ◌/◌, ◌%◌, ◌^◌, ◌<◌, Bool, false, eqb, List, [], ◌∷◌, ◌++◌, length, replicate, sym, refl, ap, ◌∙◌, ap₂, append_assoc, mod-lt, mul_assoc, suc-add, pow-suc, zero-add, div-one, one-add, arith, pow_pos, shr-shr}
+-- Numbers written in bits, the lowest or the highest digit first: parts, zeros, and numbers turned round.
+use Rattle.std.proofs.Common.{◌≡◌, ℕ, zero, suc, ◌+◌, ◌*◌, ◌/◌, ◌%◌, ◌^◌, ◌<◌, Bool, false, eqb, ◌⊎◌, List, [], ◌∷◌, ◌++◌, length, replicate, sym, refl, ap, ◌∙◌, ap₂, inl, inr, append_assoc, mul_assoc, suc-add, pow-suc, zero-add, div-one, one-add, arith, shr-shr}
 use Rattle.std.proofs.Math.Nat.{zero-div}
-use Rattle.std.specs.Int.Bits.{bit_xor, xor_shifted}
-use Rattle.std.proofs.lemmas.Nat.{mod-pow-add}
+use Rattle.std.proofs.Math.Pow.{field, mod-mod-pow}
 use Rattle.std.specs.Int.{reverse_bits_onto}
 use Rattle.std.proofs.lemmas.List.{append-nil}
-use Rattle.crc.specs.Bits.{odd, low_first, high_first}
-use Rattle.crc.specs.Laws.{value}
-use Rattle.crc.proofs.Laws.{scale_odd}
+use Rattle.bits.specs.Bits.{odd, low_first, high_first}
+
+-- ---- the lowest digit
+below_two : (x : ℕ) → x < 2 → (x ≡ 0) ⊎ (x ≡ 1)
+below_two zero h = inl refl
+below_two (suc zero) h = inr refl
+below_two (suc (suc x)) h = absurd (omega arith)
+
+pub digit : (n : ℕ) → (n % 2 ≡ 0) ⊎ (n % 2 ≡ 1)
+digit n = below_two (n % 2) (omega arith)
 
 pub length_high : (k n : ℕ) → length (high_first k n) ≡ k
 unfolding high_first
@@ -66,6 +72,18 @@ low_mod (suc k) n m h =
     whole : m * 2 ^ suc k ≡ m * 2 ^ k * 2
     whole = ap (λ (x : ℕ). m * x) (pow-suc 2 k) ∙ sym (mul_assoc m (2 ^ k) 2)
 
+-- digits above the k lowest are not looked at
+pub high_mod : (k a b : ℕ) → a % 2 ^ k ≡ b % 2 ^ k → high_first k a ≡ high_first k b
+unfolding high_first
+high_mod zero a b h = refl
+high_mod (suc k) a b h =
+    ap₂ (λ (x : Bool) (xs : List Bool). x ∷ xs)
+    (ap (λ (x : ℕ). eqb x 1) (sym (field a 1 k) ∙ ap (λ (x : ℕ). x / 2 ^ k) h' ∙ field b 1 k))
+    (high_mod k a b (sym (mod-mod-pow a 1 k) ∙ ap (λ (x : ℕ). x % 2 ^ k) h' ∙ mod-mod-pow b 1 k))
+  where
+    h' : a % 2 ^ (1 + k) ≡ b % 2 ^ (1 + k)
+    h' = ap (λ (x : ℕ). a % 2 ^ x) (one-add k) ∙ h ∙ ap (λ (x : ℕ). b % 2 ^ x) (sym (one-add k))
+
 -- ---- turned round
 odd_push : (a n : ℕ) → odd (a * 2 + n % 2) ≡ odd n
 odd_push a n = ap (λ (x : ℕ). eqb x 1) (let e : (a * 2 + n % 2) % 2 ≡ n % 2 = omega arith in e)
@@ -104,18 +122,3 @@ pub high_reversed : (k n : ℕ) → high_first k (reverse_bits_onto k n 0) ≡ l
 unfolding high_first
 high_reversed k n =
     ap (λ (m : ℕ). high_first m (reverse_bits_onto k n 0)) (sym (zero-add k)) ∙ high_onto k 0 n 0
-
--- ---- reading back
-value_cons : (k n : ℕ) (bs : List Bool) → length bs ≡ k → value bs ≡ n % 2 ^ k → value (odd (n / 2 ^ k) ∷ bs) ≡ n % 2 ^ suc k
-value_cons k n bs l e =
-    ap₂ bit_xor
-    (scale_odd (n / 2 ^ k) (1 * 2 ^ length bs) ∙ ap (λ (x : ℕ). (n / 2 ^ k % 2) * (1 * 2 ^ x)) l ∙ ap (λ (x : ℕ). (n / 2 ^ k % 2) * x) (let m : 1 * 2 ^ k ≡ 2 ^ k = omega arith in m))
-    e
-    ∙ xor_shifted (n / 2 ^ k % 2) k (n % 2 ^ k) (mod-lt n (pow_pos k))
-    ∙ sym (mod-pow-add n 1 k)
-    ∙ ap (λ (x : ℕ). n % 2 ^ x) (one-add k)
-
-pub value_high : (k n : ℕ) → value (high_first k n) ≡ n % 2 ^ k
-unfolding high_first
-value_high zero n = let e : 0 ≡ n % 1 = omega arith in e
-value_high (suc k) n = value_cons k n (high_first k n) (length_high k n) (value_high k n)
