@@ -1,5 +1,5 @@
 -- The sync bits of a block: 10 is control and 01 is data, the first bit sent standing first.
-use Rattle.std.specs.Prelude.{◌≡◌, ℕ, ◌+◌, ◌*◌, List, [], ◌∷◌, slice_index}
+use Rattle.std.specs.Prelude.{◌≡◌, ℕ, ◌+◌, ◌*◌, ◌%◌, if◌then◌else◌, List, [], ◌∷◌, ◌==◌, slice_index}
 use Rattle.block.specs.declared.Sync.{Sync}
 use Rattle.block.specs.declared.Sync.TheVariants.{Zeros, Control, Data, Ones}
 
@@ -13,6 +13,11 @@ sync_bits Ones = 1 ∷ 1 ∷ []
 -- the same bits as a number, the first bit sent the lowest
 abbrev pub sync_number : Sync → ℕ
 sync_number s = slice_index (sync_bits s) 0 + 2 * slice_index (sync_bits s) 1
+
+-- the sync bits that the two lowest bits of a number are
+abbrev pub sync_of : ℕ → Sync
+sync_of n =
+    if n % 4 == 0 then Zeros else (if n % 4 == 1 then Control else (if n % 4 == 2 then Data else Ones))
 
 -- the numbers, computed: data is 2 and control is 1
 abbrev pub FirstBitLowest : Type 0
