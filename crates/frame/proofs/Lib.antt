@@ -2,3 +2,5 @@ pub mod Carried
 pub mod Storing
 pub mod Frames
 pub mod Starts
+pub mod Told
+pub mod Steps
