@@ -9,7 +9,7 @@ use Rattle.message.specs.Values.{crc12}
 use Rattle.message.specs.declared.Kind.{Kind}
 use Rattle.message.specs.declared.MessageBlock.{MessageBlock}
 use Rattle.message.specs.Kinds.{blocks_of}
-use Rattle.message.proofs.Tails.{take_bits}
+use Rattle.bits.proofs.Parts.{take_bits}
 use Rattle.assembly.specs.Content.{Content, stored}
 use Rattle.assembly.specs.Sizes.{few_blocks, two_each}
 use Rattle.assembly.specs.Next.{broken, going, wrong, whole, left, extended, followed, judged, tested}

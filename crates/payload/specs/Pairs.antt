@@ -1,6 +1,6 @@
 -- A pair of blocks as bits in sending order, and back.
 use Rattle.std.specs.Prelude.{ℕ, Bool, if◌then◌else◌, List, ◌++◌, take, drop, ◌==◌}
-use Rattle.bits.specs.Bits.{bits, low_value, packed}
+use Rattle.bits.specs.Bits.{bits, low_value, packed_bytes}
 use Rattle.block.specs.declared.Block.{Block}
 use Rattle.block.specs.declared.Sync.{Sync}
 use Rattle.block.specs.declared.Sync.TheVariants.{Zeros, Control, Data, Ones}
@@ -21,7 +21,7 @@ sync_of n = if n == 0 then Zeros else if n == 1 then Control else if n == 2 then
 
 -- the block that 66 bits write
 abbrev pub block_of : List Bool → Block
-block_of l = record { sync = sync_of (low_value (take 2 l)); bytes = packed 8 (drop 2 l) }
+block_of l = record { sync = sync_of (low_value (take 2 l)); bytes = packed_bytes 8 (drop 2 l) }
 
 -- the pair that 132 bits write
 abbrev pub pair_of : List Bool → Pair

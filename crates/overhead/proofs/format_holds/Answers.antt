@@ -1,5 +1,5 @@
 use Rattle.std.proofs.Common.{refl, ap}
-use Rattle.bits.specs.Bits.{low_first, high_first, bits, packed}
+use Rattle.bits.specs.Bits.{low_first, high_first, bits, packed_bytes}
 use Rattle.crc.specs.Remainder.{step, reduce}
 use Rattle.overhead.specs.Format.{covered_bits, overhead_bits, overhead_bytes, read_word, read_bytes}
 use Rattle.overhead.proofs.Coding.{coded, fields_tell, in_range_read}
@@ -19,5 +19,5 @@ unfolding read_bytes
 returns-clause-others c xs ys e = ap read_word e
 
 pub returns-clause-worked : goal.returns-clause-worked
-unfolding low_first high_first bits packed step reduce covered_bits overhead_bits overhead_bytes read_word read_bytes
+unfolding low_first high_first bits packed_bytes step reduce covered_bits overhead_bits overhead_bytes read_word read_bytes
 returns-clause-worked c = (refl, refl, refl, refl)
