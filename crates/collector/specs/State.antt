@@ -5,7 +5,7 @@ use Rattle.message.specs.declared.Kind.TheVariants.{Basic, Aps, Cv, OneDm, TwoDm
 use Rattle.message.specs.Kinds.{blocks_of}
 use Rattle.collector.specs.Content.{Content, IsPart}
 
--- the two collections, the last whole message of each kind, and the time of the question that waits
+-- the message that each collection has begun, if one; by kind, the message that came whole last; when the waiting question was sent
 pub record State : Type 0 where
   pub aps : Option Content
   pub low : Option Content

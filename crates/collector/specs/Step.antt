@@ -35,7 +35,8 @@ held k c s = record {
   question = s.question;
 }
 
--- the last whole message of its kind; one of two-way delay waits as a question, in place of an earlier one
+-- A whole message replaces the one kept of its kind. Of a two-way delay message the time is kept as well, as the waiting question: only
+-- the newest is worth an answer, so a question that still waits is replaced.
 abbrev pub kept : Content → State → State
 kept u s = record {
   aps = s.aps;

@@ -62,7 +62,7 @@ pub struct Report {
     pub found: Result<Option<Kind>, BlockError>,
 }
 
-/// The two collections, the last whole message of each kind, and the time of the question that waits.
+/// What has come of a message in each of the two collections, the message that came whole last by kind, and the question that waits.
 /// It cannot be copied, so that no question is handed out twice.
 #[derive(Drop)]
 pub struct Collector {
