@@ -8,7 +8,7 @@ use Rattle.crc.specs.Remainder.{remainder}
 use Rattle.message.specs.Values.{crc12}
 use Rattle.message.specs.declared.Kind.{Kind}
 use Rattle.message.specs.Kinds.{blocks_of}
-use Rattle.message.proofs.Tails.{take_bits}
+use Rattle.bits.proofs.Parts.{take_bits}
 use Rattle.collector.specs.Content.{Content, zero_padded}
 use Rattle.collector.proofs.Sizes.{few_blocks}
 use Rattle.collector.specs.declared.assembly.Outcome.TheVariants.{Corrupt, Whole}
