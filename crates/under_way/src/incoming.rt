@@ -2,7 +2,7 @@
 ghost use Rattle.std.specs.Prelude.{◌≡◌, ◌≤◌, ◌∷◌, [], length};
 ghost use Rattle.block.specs.Classes.{class_of};
 ghost use Rattle.block.specs.Fixed.{start_block};
-ghost use Rattle.under_way.specs.Coming.{after, finishing, growing, is_data, is_full_end, whole_frame};
+ghost use Rattle.under_way.specs.Coming.{blocks_after, finish_answer, grow_answer, is_data, is_full_end, frame_if_whole};
 
 use crate::whole::WholeFrame;
 use block::{Block, Class};
@@ -79,8 +79,8 @@ impl Incoming {
 
     /// Takes a data block behind 1 to 990 blocks; refused, all stays.
     pub fn grow(&mut self, block: &Block) -> Result<(), Misfit>
-        ensures answer { result ≡ growing self.old block.now }
-        ensures blocks { self.new ≡ after (growing self.old block.now) self.old block.now }
+        ensures answer { result ≡ grow_answer self.old block.now }
+        ensures blocks { self.new ≡ blocks_after (grow_answer self.old block.now) self.old block.now }
     {
         if !is_data(block) {
             return Err(Misfit::OtherClass);
@@ -95,8 +95,8 @@ impl Incoming {
 
     /// Takes an end that carries seven bytes behind 991 blocks, which makes the frame whole; refused, all stays.
     pub fn finish(&mut self, block: &Block) -> Result<(), Misfit>
-        ensures answer { result ≡ finishing self.old block.now }
-        ensures blocks { self.new ≡ after (finishing self.old block.now) self.old block.now }
+        ensures answer { result ≡ finish_answer self.old block.now }
+        ensures blocks { self.new ≡ blocks_after (finish_answer self.old block.now) self.old block.now }
     {
         if !is_full_end(block) {
             return Err(Misfit::OtherClass);
@@ -116,7 +116,7 @@ impl Incoming {
 
     /// The frame, if it is whole, to be read where it lies.
     pub fn whole(&self) -> Option<WholeFrame<'_>>
-        ensures { result ≡ whole_frame self.now }
+        ensures { result ≡ frame_if_whole self.now }
     {
         if self.count < 992 {
             return None;

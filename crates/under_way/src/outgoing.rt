@@ -62,7 +62,7 @@ impl Outgoing {
     /// Writes a pair into a slot of the next frame; refused while a frame is being sent.
     pub fn write_pair(&mut self, slot: SlotNumber, pair: Pair) -> Result<(), SlotsRefusal>
         ensures answer { result ≡ slots_answer self.old.rest }
-        ensures written { self.new ≡ with_pair slot pair self.old }
+        ensures written { self.new ≡ with_pair (slots_answer self.old.rest) slot pair self.old }
     {
         if self.gone < 992 {
             return Err(SlotsRefusal::StillSending);
@@ -86,7 +86,7 @@ impl Outgoing {
 
     /// Begins the frame that says this and carries what the slots hold; one that is still being sent is given up.
     pub fn begin(&mut self, overhead: Overhead)
-        ensures begun { self.new ≡ (record { pairs = self.old.pairs; rest = frame_written (fields_of overhead) self.old.pairs }) }
+        ensures begun { self.new ≡ record self.old { rest = frame_written (fields_of overhead) self.old.pairs } }
         ensures range { IsOverhead overhead }
     {
         hold_bytes(&self.payload);
@@ -97,7 +97,7 @@ impl Outgoing {
     /// The next block, none where no frame is under way.
     pub fn next(&mut self) -> Option<Block>
         ensures first { result ≡ slice_get self.old.rest 0 }
-        ensures rest { self.new ≡ (record { pairs = self.old.pairs; rest = drop 1 self.old.rest }) }
+        ensures rest { self.new ≡ record self.old { rest = drop 1 self.old.rest } }
     {
         let place = FramePlace::behind(self.gone)?;
         self.gone += 1;
