@@ -44,12 +44,13 @@ fn send(outgoing: &mut Outgoing) -> Option<Block>
 // Answers whether the frame is whole with this block.
 #[inline(never)]
 fn take(incoming: &mut Incoming, block: &Block) -> bool {
-    match block.class() {
-        Class::Data => {
-            if incoming.grow(block).is_err() {
-                incoming.clear();
-            }
+    if let Sync::Data = block.sync {
+        if incoming.grow(block).is_err() {
+            incoming.clear();
         }
+        return false;
+    }
+    match block.class() {
         Class::Start => incoming.begin(),
         Class::End(_) => {
             if incoming.finish(block).is_ok() {

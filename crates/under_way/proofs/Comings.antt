@@ -1,5 +1,5 @@
 -- A frame's first blocks.
-use Rattle.std.proofs.Common.{◌≡◌, ℕ, ◌+◌, ◌-◌, ◌*◌, ◌<◌, ◌≤◌, true, false, List, [], ◌∷◌, ◌++◌, length, take, Ok, Err, Some, None, Result, refl, sym, ap, ◌∙◌, arith, eqb}
+use Rattle.std.proofs.Common.{◌≡◌, ℕ, ◌+◌, ◌-◌, ◌*◌, ◌<◌, ◌≤◌, Bool, true, false, List, [], ◌∷◌, ◌++◌, length, take, Ok, Err, Some, None, Result, refl, sym, ap, ◌∙◌, arith, eqb}
 use Rattle.std.proofs.lemmas.List.{length-take-le, take_all}
 use Rattle.std.proofs.lemmas.Bool.{cond-false, cond-true, eq-eqb, ne_eqb}
 use Rattle.std.proofs.lemmas.Bool.Decides.{nat_tests}
@@ -7,7 +7,10 @@ use Rattle.bits.specs.Splices.{splice}
 use Rattle.block.specs.declared.Block.{Block}
 use Rattle.block.specs.declared.Class.{Class}
 use Rattle.block.specs.declared.Class.TheVariants.{Data, Idle, Characters, OrderedSet, Start, End, Unlawful}
+use Rattle.block.specs.declared.Sync.{Sync}
+use Rattle.block.specs.declared.Sync.TheVariants.{Zeros, Control, Data as DataSync, Ones}
 use Rattle.block.specs.Classes.{class_of}
+use Rattle.block.proofs.Classes.{classes_told}
 use Rattle.block.specs.Fixed.{start_block}
 use Rattle.frame.specs.Frames.{frame_of, stored, with_data}
 use Rattle.frame.specs.Places.{is_data_place}
@@ -46,6 +49,23 @@ end_told OrderedSet e = cc
 end_told Start e = cc
 end_told (End n) e = let s : n ≡ 7 = grind (arith, nat_tests) in ap End s
 end_told Unlawful e = cc
+
+other_by_sync : (b : Block) (s : Sync) → b.sync ≡ s → (s ≡ DataSync → ⊥) → is_data (class_of b) ≡ false
+other_by_sync b s e h = go (is_data (class_of b)) refl
+  where
+    go : (p : Bool) → is_data (class_of b) ≡ p → is_data (class_of b) ≡ false
+    go true d = absurd (h (sym e ∙ (classes_told b Data).0 (data_told (class_of b) d)))
+    go false d = d
+
+-- the sync bits tell a data block
+pub data_by_sync : (b : Block) → (elim b.sync [ Zeros ↦ false | Control ↦ false | DataSync ↦ true | Ones ↦ false ]) ≡ is_data (class_of b)
+data_by_sync b = by_sync b.sync refl
+  where
+    by_sync : (s : Sync) → b.sync ≡ s → (elim s [ Zeros ↦ false | Control ↦ false | DataSync ↦ true | Ones ↦ false ]) ≡ is_data (class_of b)
+    by_sync Zeros e = sym (other_by_sync b Zeros e (λ z. cc))
+    by_sync Control e = sym (other_by_sync b Control e (λ z. cc))
+    by_sync DataSync e = sym (ap is_data ((classes_told b Data).1 e))
+    by_sync Ones e = sym (other_by_sync b Ones e (λ z. cc))
 
 -- ---- a data block
 pub other_class : (here : List Block) (b : Block) → is_data (class_of b) ≡ false → grow_answer here b ≡ Err OtherClass

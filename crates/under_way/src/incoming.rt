@@ -5,7 +5,7 @@ ghost use Rattle.block.specs.Fixed.{start_block};
 ghost use Rattle.under_way.specs.Coming.{blocks_after, finish_answer, grow_answer, is_data, is_full_end, frame_if_whole};
 
 use crate::whole::WholeFrame;
-use block::{Block, Class};
+use block::{Block, Class, Sync};
 use frame::place::FramePlace;
 use frame::{OverheadBytes, store_block, store_data};
 use payload::Payload;
@@ -125,11 +125,12 @@ impl Incoming {
     }
 }
 
-// Is it a data block?
+// Is it a data block? By the sync bits alone, since most blocks are, and a class asks for the type too.
+#[tactic(auto, using(crate::proofs::Comings::data_by_sync))]
 fn is_data(block: &Block) -> bool
     ensures { result ≡ is_data (class_of block.now) }
 {
-    matches!(block.class(), Class::Data)
+    matches!(block.sync, Sync::Data)
 }
 
 // Is it an end that carries seven bytes?
