@@ -4,7 +4,7 @@
 #![tactic(auto)]
 
 ghost use Rattle.std.specs.Prelude.{◌≡◌, ◌+◌, ◌-◌, ◌*◌, ◌≤◌, ◌∷◌, ◌++◌, length, take, drop};
-ghost use Rattle.frame.specs.Frames.{FrameRestored, Shaped, carried_by, frame_block, frame_of, stored, with_data};
+ghost use Rattle.frame.specs.Frames.{FrameRestored, Shaped, carried_by, frame_block, frame_of, carried_after, with_data};
 ghost use Rattle.frame.specs.Places.{IsPlace, is_data_place};
 ghost use Rattle.frame.specs.Steps.{ByBlocks};
 ghost use Rattle.frame.specs.SlotStarts.{SlotStarts, SlotsBeginThere, slot_start};
@@ -116,7 +116,7 @@ pub fn store_block(
     overhead: &mut OverheadBytes,
     payload: &mut Payload,
 )
-    ensures kept { overhead.new ++ payload.new ≡ stored place block.now.bytes (overhead.old ++ payload.old) }
+    ensures kept { overhead.new ++ payload.new ≡ carried_after place block.now.bytes (overhead.old ++ payload.old) }
     ensures eight { length block.now.bytes ≡ 8 }
     ensures long { (length overhead.new ≡ 7) × (length payload.new ≡ 7920) }
     ensures range { IsPlace place }

@@ -12,7 +12,7 @@ use Rattle.block.specs.declared.Sync.TheVariants.{Zeros, Control, Data as DataSy
 use Rattle.block.specs.Classes.{class_of}
 use Rattle.block.proofs.Classes.{classes_told}
 use Rattle.block.specs.Fixed.{start_block}
-use Rattle.frame.specs.Frames.{frame_of, stored, with_data}
+use Rattle.frame.specs.Frames.{frame_of, carried_after, with_data}
 use Rattle.frame.specs.Places.{is_data_place}
 use Rattle.frame.proofs.Frames.{frame_length}
 use Rattle.frame.proofs.Steps.{closes, grows, opens}
@@ -92,7 +92,7 @@ pub grown : (F G : List ℕ) (n : ℕ) (here : List Block) (b : Block) → lengt
 grown F G n here b long h e load at eight put =
     let c : n ≡ length here = counted F n here h e in
     let d : (1 ≤ n) × (n ≤ 990) = data_places n at in
-    let kept : G ≡ stored (n + 1) b.bytes F =
+    let kept : G ≡ carried_after (n + 1) b.bytes F =
     put ∙ cond-true (is_data_place (n + 1)) (splice (8 * (n + 1 - 2)) b.bytes F) F at
     ∙ sym (stored_data (n + 1) b.bytes F (λ z. omega arith) (λ z. omega arith)) in
     ap (λ (l : List ℕ). take (n + 1) (frame_of l)) kept
@@ -122,7 +122,7 @@ pub ends_next : (here : List Block) (b : Block) → length here ≡ 991 → is_f
 ends_next here b c e = cond-true (is_full_end (class_of b)) _ _ e ∙ cond-true (eqb (length here) 991) _ _ (eq-eqb (length here) 991 c)
 
 pub finished : (F G : List ℕ) (n : ℕ) (here : List Block) (b : Block) → length F ≡ 7927 → n ≡ 991 → take n (frame_of F) ≡ here
-    → is_full_end (class_of b) ≡ true → length b.bytes ≡ 8 → G ≡ stored 992 b.bytes F
+    → is_full_end (class_of b) ≡ true → length b.bytes ≡ 8 → G ≡ carried_after 992 b.bytes F
     → take 992 (frame_of G) ≡ blocks_after (finish_answer here b) here b
 finished F G n here b long last e end eight put =
     let c : length here ≡ 991 = sym (counted F n here (omega arith) e) ∙ last in

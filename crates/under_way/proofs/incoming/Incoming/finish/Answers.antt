@@ -1,5 +1,5 @@
 use Rattle.std.proofs.Common.{ℕ, List, ◌++◌, sym, ap, ◌∙◌, arith, length-append}
-use Rattle.frame.specs.Frames.{stored}
+use Rattle.frame.specs.Frames.{carried_after}
 use Rattle.under_way.proofs.Comings.{after_refusal, counted, ends_next, finished, too_early}
 use Rattle.under_way.proofs.incoming.Incoming.finish.Goals as goal
 
@@ -29,4 +29,4 @@ returns-clause-blocks c =
     finished F (c.store_block.new.overhead ++ c.store_block.new.payload) c.self.inside.count c.args.self.now c.args.block.now
     (length-append c.self.inside.overhead c.self.inside.payload ∙ omega (arith, c.self.told.0, c.self.told.1))
     c.if-self-ne991.false c.self.view_is (sym c.is_full_end.ensures ∙ c.if-not-is_full_end.false) c.store_block.ensures.eight
-    (c.store_block.ensures.kept ∙ ap (λ (n : ℕ). stored n c.args.block.now.bytes F) c.last.ensures)
+    (c.store_block.ensures.kept ∙ ap (λ (n : ℕ). carried_after n c.args.block.now.bytes F) c.last.ensures)
