@@ -78,6 +78,7 @@ impl Incoming {
     }
 
     /// Takes a data block behind 1 to 990 blocks; refused, all stays.
+    #[tactic(auto, using(crate::proofs::Comings::counted, crate::proofs::Comings::other_class, crate::proofs::Comings::other_place, crate::proofs::Comings::fits_next, crate::proofs::Comings::not_grown))]
     pub fn grow(&mut self, block: &Block) -> Result<(), Misfit>
         ensures answer { result ≡ grow_answer self.old block.now }
         ensures blocks { self.new ≡ blocks_after (grow_answer self.old block.now) self.old block.now }
@@ -94,6 +95,7 @@ impl Incoming {
     }
 
     /// Takes an end that carries seven bytes behind 991 blocks, which makes the frame whole; refused, all stays.
+    #[tactic(auto, using(crate::proofs::Comings::counted, crate::proofs::Comings::no_end, crate::proofs::Comings::too_early, crate::proofs::Comings::ends_next, crate::proofs::Comings::after_refusal))]
     pub fn finish(&mut self, block: &Block) -> Result<(), Misfit>
         ensures answer { result ≡ finish_answer self.old block.now }
         ensures blocks { self.new ≡ blocks_after (finish_answer self.old block.now) self.old block.now }
@@ -115,6 +117,7 @@ impl Incoming {
     }
 
     /// The frame, if it is whole, to be read where it lies.
+    #[tactic(auto, using(crate::proofs::Comings::not_whole))]
     pub fn whole(&self) -> Option<WholeFrame<'_>>
         ensures { result ≡ frame_if_whole self.now }
     {
