@@ -79,7 +79,7 @@ impl Outgoing {
         ensures between { IsSome result ↔ (self.old.rest ≡ []) }
         ensures value { IfSome result (λ p. pairs_of p.now ≡ self.old.pairs) }
     {
-        if self.gone < 992 {
+        if self.gone != 992 {
             return None;
         }
         Some(&mut self.payload)
