@@ -53,8 +53,8 @@ abbrev pub SameTexts : Type 0
 SameTexts = (expected computed : List ℕ) → IsTrue (bytes_eq expected computed) ↔ (expected ≡ computed)
 
 -- a line: the value's name, what is expected, what was computed, and whether they are the same
-abbrev pub line_of : List ℕ → List ℕ → List ℕ → List ℕ
-line_of name expected computed =
+abbrev pub value_line : List ℕ → List ℕ → List ℕ → List ℕ
+value_line name expected computed =
     name ++ (codes ": expected " ++ (expected ++ (codes ", computed " ++ (computed ++ (codes ": " ++ verdict_of expected computed)))))
 
 -- the value of a hexadecimal digit
