@@ -26,7 +26,7 @@ three_digits n low high =
     ∙ ap (λ k. (48 + k) ∷ (48 + n / 10 % 10) ∷ (48 + n % 10) ∷ []) e
 
 -- a number below 1,000 has one way to be written in decimal
-same_decimal : (n : ℕ) → n < 1000 → lease.decimal n ≡ decimal n
+same_decimal : (n : ℕ) → n < 1000 → lease.short_decimal n ≡ decimal n
 same_decimal n h =
     let long = cond (ltb n 100) ((48 + n / 10) ∷ (48 + n % 10) ∷ []) ((48 + n / 100) ∷ (48 + n / 10 % 10) ∷ (48 + n % 10) ∷ []) in
     ⊎_elim
@@ -57,7 +57,7 @@ lines_read c bs small all =
     let rest = digits ++ (10 ∷ []) in
     let parts : line_parts (line_text c bs) ≡ Some (c, digits) =
     ap (λ t. line_parts (t ++ (32 ∷ rest))) (sym (same_decimal c small))
-    ∙ bind_at (number (lease.decimal c ++ (32 ∷ rest))) client_by (c, 32 ∷ rest) (number_reads 32 rest refl c small)
+    ∙ bind_at (number (lease.short_decimal c ++ (32 ∷ rest))) client_by (c, 32 ∷ rest) (number_reads 32 rest refl c small)
     ∙ bind_at (rest_after (codes " ") (32 ∷ rest)) (rest_by c) rest (after_append (codes " ") rest)
     ∙ bind_at (ended_text rest) (digits_by c) digits (ended_push digits 10)
     ∙ cond-true (is_hex digits) (Some (c, digits)) None (hex_text_is bs all) in
