@@ -246,13 +246,19 @@ mod tests {
         Ok(())
     }
 
+    // That a slot begins in one of the 990 data blocks can be proved of every caller's slot.
+    fn data_block_of(slot: SlotNumber) -> u16
+        ensures { result ≤ 990 }
+    {
+        slot_start(slot).block
+    }
+
     #[test]
     fn starts(rt: HostRuntime) -> Result<(), Fail> {
         for (slot, block, byte, bit) in [(1, 1, 7, 0), (2, 3, 7, 4), (480, 989, 6, 4)] {
-            assert_eq!(rt;
-                slot_start(SlotNumber::try_from(slot)?),
-                SlotStart { block, byte, bit }
-            );
+            let slot = SlotNumber::try_from(slot)?;
+            assert_eq!(rt; slot_start(slot), SlotStart { block, byte, bit });
+            assert_eq!(rt; data_block_of(slot), block);
         }
         assert!(rt; FramePlace::try_from(0).is_err() && FramePlace::try_from(993).is_err());
         Ok(())
