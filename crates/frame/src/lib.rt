@@ -29,8 +29,8 @@ pub fn block_at(overhead: &OverheadBytes, payload: &Payload, place: FramePlace) 
     ensures made { result ≡ frame_block (overhead.now ++ payload.now) place }
     ensures range { IsPlace place }
 {
-    // By the number, here and in `store_block`: an enum of the four kinds would need a definition and a law that say which number is
-    // which, and its matches would have the same four arms.
+    // By the number, here and in `store_block`, and data blocks first, since nearly all are: an enum of the four kinds would need a
+    // definition and a law that say which number is which.
     let n = place.position();
     if 2 < n && n < 992 {
         return data(payload, 8 * n - 23);
