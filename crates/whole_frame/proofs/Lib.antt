@@ -2,3 +2,4 @@ pub mod Payloads
 pub mod Shape
 pub mod Back
 pub mod Only
+pub mod Alter
