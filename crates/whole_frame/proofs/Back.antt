@@ -16,7 +16,7 @@ use Rattle.frame.specs.Frames.{carried_by, frame_block, frame_of}
 use Rattle.frame.proofs.Frames.{frame_at, frame_carries}
 use Rattle.whole_frame.specs.Meaning.{content_with, frame_read, frame_written, overhead_read, pairs_read}
 use Rattle.whole_frame.specs.Laws.{Altered, FramesCoded, Sendable}
-use Rattle.whole_frame.proofs.Payloads.{pairs_back}
+use Rattle.payload.proofs.Payloads.{pairs_back}
 use Rattle.whole_frame.proofs.Shape.{written_shaped, written_whole}
 
 -- a frame's overhead and pairs, read where they lie

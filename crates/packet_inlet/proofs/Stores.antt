@@ -1,22 +1,19 @@
 -- A packet through an inlet of its own: what waits there, and what a move of its pairs adds.
-use Rattle.std.proofs.Common.{◌≡◌, ℕ, ◌+◌, ◌-◌, ◌*◌, ◌/◌, ◌%◌, true, List, [], ◌∷◌, ◌++◌, length, replicate, Ok, Err, sum, Result, sym, ap, ◌∙◌, add-zero, arith}
+use Rattle.std.proofs.Common.{◌≡◌, ℕ, ◌+◌, ◌*◌, ◌/◌, ◌%◌, true, List, [], ◌∷◌, ◌++◌, length, replicate, Ok, Err, sum, sym, ap, ◌∙◌, add-zero, arith}
 use Rattle.std.proofs.lemmas.List.{append-nil, take_all}
 use Rattle.std.proofs.lemmas.Bool.{cond-true, eq-eqb}
 use Rattle.std.proofs.lemmas.List.Sums.{sum_by-cons}
 use Rattle.block.specs.declared.Block.{Block}
 use Rattle.block.specs.Fixed.{idle_block}
 use Rattle.refusal.specs.declared.Refusal.{Refusal}
-use Rattle.port.specs.Model.{Holding, Lists, updated}
-use Rattle.packet.specs.Answers.{GivesBack}
+use Rattle.port.specs.Model.{Holding, Lists, updated_lists}
 use Rattle.packet.specs.Format.{blocks_of, in_range}
 use Rattle.packet_inlet.specs.Packets.{are_lengths, blocks_of_all, packets_of}
 use Rattle.packet_inlet.specs.Waiting.{new_answer, only_for}
-use Rattle.transfer.specs.Runs.{AllMoved, FillsBehind, NoneMoved, padded}
-use Rattle.transfer.specs.Stored.{ComesBack, PacketRefused, PacketStored}
-use Rattle.transfer.proofs.Runs.{padded_front, padded_none, updated_here}
-
-pub fills_behind : FillsBehind
-fills_behind f n l e q = ap (padded f n) (sym (append-nil l)) ∙ padded_front f l [] n e q ∙ ap (λ t. l ++ t) (padded_none f e)
+use Rattle.port.specs.Runs.{AllMoved, NoneMoved, padded_blocks}
+use Rattle.packet_inlet.specs.Stored.{PacketRefused, PacketStored}
+use Rattle.port.proofs.Lists.{updated_here}
+use Rattle.port.proofs.Padded.{fills_behind}
 
 one_length : (n : ℕ) → in_range n ≡ true → are_lengths (n ∷ []) n ≡ true
 one_length n q = rw q (eq-eqb (sum (n ∷ [])) n (sum_by-cons (λ x. x) n [] ∙ add-zero n))
@@ -50,12 +47,12 @@ pub stored_by :
 stored_by c n k p ns f w v h j q only a count half idle moved =
     let here = waits_at c p w q (a ∙ ap (λ l. new_answer c l p) only) in
     let even : n + n % 2 ≡ 2 * k = omega arith in
-    let whole : padded f (2 * k) (w c) ≡ blocks_of p ++ replicate (length (blocks_of p) % 2) idle_block =
-    ap (λ b. padded b (2 * k) (w c)) idle ∙ ap (padded idle_block (2 * k)) here ∙ fills_behind idle_block (2 * k) (blocks_of p) (length (blocks_of p) % 2) (rw count even) in
+    let whole : padded_blocks f (2 * k) (w c) ≡ blocks_of p ++ replicate (length (blocks_of p) % 2) idle_block =
+    ap (λ b. padded_blocks b (2 * k) (w c)) idle ∙ ap (padded_blocks idle_block (2 * k)) here ∙ fills_behind idle_block (2 * k) (blocks_of p) (length (blocks_of p) % 2) (rw count even) in
     record {
       lawful = q;
       count = sym count;
-      appended = moved.appended ∙ ap (λ l. updated h.held c (h.held c ++ l)) whole;
+      appended = moved.appended ∙ ap (λ l. updated_lists h.held c (h.held c ++ l)) whole;
       places = omega (arith, moved.places);
     }
 
@@ -67,13 +64,3 @@ refused_by c n k p e w v h j q count half none = record {
   full = λ _. rw count (omega (arith, none.full));
   same = none.same;
 }
-
--- what is read from the blocks taken is the packet that waited first
-pub comes_back :
-    (w blocks : List Block) (n : ℕ) (before after : List ℕ) (r : Result (ℕ × ℕ) Refusal) →
-    blocks ≡ padded idle_block n w → GivesBack blocks before r after → ComesBack w n before r after
-comes_back w blocks n before after r e gives =
-    λ p behind q fits lawful room. let rest : ℕ = n - length (blocks_of p) in
-    gives p (padded idle_block rest behind)
-    (e ∙ ap (padded idle_block n) q ∙ padded_front idle_block (blocks_of p) behind n rest (omega arith))
-    lawful room

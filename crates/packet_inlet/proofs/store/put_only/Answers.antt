@@ -1,7 +1,7 @@
 use Rattle.std.proofs.Common.{refl}
 use Rattle.std.proofs.lemmas.Result.{err_from_is_err_and}
-use Rattle.transfer.proofs.Packets.{never_refused, refused_by, stored_by}
-use Rattle.transfer.proofs.put_only.Goals as goal
+use Rattle.packet_inlet.proofs.Stores.{never_refused, refused_by, stored_by}
+use Rattle.packet_inlet.proofs.store.put_only.Goals as goal
 
 pub returns : goal.returns
 returns g c =
