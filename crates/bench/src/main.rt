@@ -6,8 +6,8 @@
 #![tactic(auto)]
 
 ghost use Rattle.std.specs.Prelude.{◌≡◌, ◌*◌, fold};
-ghost use Rattle.bench.specs.Filled.{block_of, next, pairs_from};
-ghost use Rattle.bench.specs.Sums.{summed};
+ghost use Rattle.bench.specs.Filled.{counted_block, next, pairs_from};
+ghost use Rattle.bench.specs.Sums.{sum_with};
 ghost use Rattle.payload.specs.Payloads.{pairs_of, payload_of};
 
 use block::{Block, Pair, Sync};
@@ -29,9 +29,9 @@ fn next(x: u64) -> u64
 }
 
 // A block of a number's bits.
-#[tactic(auto, using(crate::proofs::Filling::sync_is), unfolding(crate::specs::Filled::block_of))]
+#[tactic(auto, using(crate::proofs::Filling::sync_is), unfolding(crate::specs::Filled::counted_block))]
 fn block(x: u64) -> Block
-    ensures { result ≡ block_of x }
+    ensures { result ≡ counted_block x }
 {
     Block {
         sync: Sync::from_bits((x >> 3 & 3) as u8),
@@ -89,7 +89,7 @@ fn unpack_rounds(payload: &mut Payload, pairs: &mut [Pair; 480]) -> u64
 
 // A checksum of the payload, begun with another.
 fn checksum(start: u64, payload: &Payload) -> u64
-    ensures { result ≡ fold summed start payload.now }
+    ensures { result ≡ fold sum_with start payload.now }
 {
     payload.iter().fold(
         start,

@@ -4,3 +4,4 @@ pub mod Splices
 pub mod Parts
 pub mod Packing
 pub mod Words
+pub mod Values

@@ -1,10 +1,10 @@
 -- The bytes that bits make: as many as are asked for, and each a byte.
 use Rattle.std.proofs.Common.{◌≡◌, ℕ, zero, suc, ◌^◌, ◌<◌, ◌≤◌, Bool, true, false, List, [], ◌∷◌, length, get_or, take, drop, refl, ap, arith, pow_pos}
 use Rattle.std.proofs.Math.Nat.{pow-succ'}
-use Rattle.bits.specs.Bits.{low_value, packed}
+use Rattle.bits.specs.Bits.{low_value, packed_bytes}
 
-pub length_packed : (n : ℕ) (bs : List Bool) → length (packed n bs) ≡ n
-unfolding packed
+pub length_packed : (n : ℕ) (bs : List Bool) → length (packed_bytes n bs) ≡ n
+unfolding packed_bytes
 length_packed zero bs = refl
 length_packed (suc n) bs = ap suc (length_packed n (drop 8 bs))
 
@@ -26,8 +26,8 @@ take_short zero bs = omega arith
 take_short (suc n) [] = omega arith
 take_short (suc n) (b ∷ bs) = omega (arith, take_short n bs)
 
-pub packed_below : (n : ℕ) (bs : List Bool) (i : ℕ) → get_or (packed n bs) i 0 < 256
-unfolding packed
+pub packed_below : (n : ℕ) (bs : List Bool) (i : ℕ) → get_or (packed_bytes n bs) i 0 < 256
+unfolding packed_bytes
 packed_below zero bs i = omega arith
 packed_below (suc n) bs zero = value_below 8 (take 8 bs) (take_short 8 bs)
 packed_below (suc n) bs (suc i) = packed_below n (drop 8 bs) i

@@ -1,6 +1,6 @@
 -- Whole bytes among bits: joined, left out, taken, and overwritten.
 use Rattle.std.proofs.Common.{◌≡◌, ℕ, zero, suc, ◌+◌, ◌-◌, ◌*◌, ◌≤◌, Bool, List, [], ◌∷◌, ◌++◌, length, take, drop, sym, refl, ap, ◌∙◌, append_assoc, arith, length-drop}
-use Rattle.std.proofs.lemmas.List.{length-take-le, take-append-drop, take_at}
+use Rattle.std.proofs.lemmas.List.{length-take-le, take-append-drop}
 use Rattle.bits.specs.Bits.{low_first, bits}
 use Rattle.bits.specs.Splices.{splice}
 use Rattle.bits.proofs.Places.{length_bits}

@@ -1,9 +1,9 @@
 -- Numbers as bits, the lowest first: what stands above does not count, numbers joined, and bytes as one number.
-use Rattle.std.proofs.Common.{◌≡◌, ℕ, zero, suc, ◌+◌, ◌-◌, ◌*◌, ◌/◌, ◌%◌, ◌^◌, ◌<◌, ◌≤◌, eqb, Bool, List, [], ◌∷◌, ◌++◌, map, length, get_or, take, drop, sym, refl, ap, ap₂, ◌∙◌, append_assoc, mul_assoc, mul_comm, arith, length-drop}
+use Rattle.std.proofs.Common.{◌≡◌, ℕ, zero, suc, ◌+◌, ◌-◌, ◌*◌, ◌/◌, ◌%◌, ◌^◌, ◌<◌, ◌≤◌, eqb, Bool, List, [], ◌∷◌, ◌++◌, length, get_or, take, drop, sym, refl, ap, ap₂, ◌∙◌, append_assoc, mul_assoc, mul_comm, arith, length-drop}
 use Rattle.std.proofs.Math.Nat.{pow-succ'}
 use Rattle.std.proofs.Math.Pow.{high}
 use Rattle.std.proofs.lemmas.List.{drop_more, take_at, drop_at, drop-drop, take_all}
-use Rattle.bits.specs.Bits.{odd, low_first, bits}
+use Rattle.bits.specs.Bits.{low_first, bits}
 use Rattle.bits.proofs.Digits.{low_join}
 use Rattle.bits.proofs.Parts.{drop_bits}
 use Rattle.bits.proofs.Places.{length_bits, length_low}

@@ -6,7 +6,7 @@
 
 ghost use Rattle.std.specs.Prelude.{◌≡◌, ℕ, ◌/◌, ◌^◌, ◌<◌};
 ghost use Rattle.bits.specs.Bits.{field};
-ghost use Rattle.crc.specs.Laws.{Detecting, Detects, Known, Laws};
+ghost use Rattle.crc.specs.Laws.{Detecting, Detects, DivisionLaws, Known};
 ghost use Rattle.crc.specs.Remainder.{remainder as rest, step};
 
 /// A generator by its terms: the digit of weight 2^k is the coefficient of x^k, and the highest is that of x^degree.
@@ -81,7 +81,7 @@ impl Generator {
 /// The remainder is that of the division, and its laws, for every generator.
 #[tactic(auto, using(crate::proofs::Division::laws, crate::proofs::Generators::known))]
 pub fn laws_hold()
-    ensures laws { (w G : ℕ) → G / 2 ^ w ≡ 1 → Laws w G }
+    ensures laws { (w G : ℕ) → G / 2 ^ w ≡ 1 → DivisionLaws w G }
     ensures known { Known }
 {}
 

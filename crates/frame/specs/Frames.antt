@@ -1,12 +1,14 @@
 -- A frame carries seven overhead bytes and 7,920 payload bytes, one after the other, in its data blocks and its end block.
-use Rattle.std.specs.Prelude.{◌≡◌, ℕ, ◌+◌, ◌-◌, ◌*◌, ◌≤◌, if◌then◌else◌, List, [], ◌∷◌, ◌++◌, map, length, take, drop, ◌==◌, slice_index_or}
+use Rattle.std.specs.Prelude.{◌≡◌, ℕ, ◌+◌, ◌-◌, ◌*◌, ◌≤◌, if◌then◌else◌, List, [], ◌∷◌, ◌++◌, map, length, take, drop, ◌==◌, Some, slice_get, slice_index_or}
 use Rattle.std.specs.List.{range_with_len, flat_map}
+use Rattle.std.specs.Option.{option_map}
 use Rattle.block.specs.declared.Block.{Block}
 use Rattle.block.specs.declared.Sync.TheVariants.{Control, Data}
 use Rattle.block.specs.declared.Class.TheVariants.{Data as DataClass, End}
 use Rattle.block.specs.Classes.{class_of}
 use Rattle.block.specs.Fixed.{start_block}
-use Rattle.payload.specs.Bits.{splice}
+use Rattle.bits.specs.Splices.{splice}
+use Rattle.frame.specs.Places.{frame_blocks, is_data_place}
 
 -- the block at a place of the frame that carries these bytes: data blocks take eight each, the end block the last seven
 abbrev pub frame_block : List ℕ → ℕ → Block
@@ -24,23 +26,28 @@ abbrev pub carried_by : List Block → List ℕ
 carried_by blocks = flat_map (λ (b : Block). b.bytes) (take 990 (drop 1 blocks)) ++ drop 1 (slice_index_or blocks 991 start_block).bytes
 
 -- the carried bytes, with those of the block at a place stored
-abbrev pub stored : ℕ → List ℕ → List ℕ → List ℕ
-stored n bytes carried =
+abbrev pub carried_after : ℕ → List ℕ → List ℕ → List ℕ
+carried_after n bytes carried =
     if n == 1 then carried
     else if n == 992 then splice 7920 (drop 1 bytes) carried
     else splice (8 * (n - 2)) bytes carried
 
 -- the carried bytes, with those of all blocks from a place on stored one after the other
-abbrev pub stored_from : ℕ → List Block → List ℕ → List ℕ
-stored_from n [] carried = carried
-stored_from n (b ∷ bs) carried = stored_from (n + 1) bs (stored n b.bytes carried)
+abbrev pub carried_after_all : ℕ → List Block → List ℕ → List ℕ
+carried_after_all n [] carried = carried
+carried_after_all n (b ∷ bs) carried = carried_after_all (n + 1) bs (carried_after n b.bytes carried)
 
 -- a frame's blocks, stored one after the other, leave what it was made of, whatever was there before
 abbrev pub FrameRestored : Type 0
-FrameRestored = (carried before : List ℕ) → length carried ≡ 7927 → length before ≡ 7927 → stored_from 1 (frame_of carried) before ≡ carried
+FrameRestored = (carried before : List ℕ) → length carried ≡ 7927 → length before ≡ 7927 → carried_after_all 1 (frame_of carried) before ≡ carried
+
+-- the carried bytes, with those of a data block stored, where the place is a data block's
+abbrev pub with_data : ℕ → List ℕ → List ℕ → List ℕ
+with_data n bytes carried = if is_data_place n then splice (8 * (n - 2)) bytes carried else carried
 
 -- the shape of a frame: the start block, 990 data blocks, an end that carries seven bytes
 pub record Shaped (blocks : List Block) : Type 0 where
-  pub opens : slice_index_or blocks 0 start_block ≡ start_block
-  pub data_blocks : (n : ℕ) → 1 ≤ n → n ≤ 990 → class_of (slice_index_or blocks n start_block) ≡ DataClass
-  pub ends : class_of (slice_index_or blocks 991 start_block) ≡ End 7
+  pub many : length blocks ≡ frame_blocks
+  pub opens : slice_get blocks 0 ≡ Some start_block
+  pub data_blocks : (n : ℕ) → 1 ≤ n → n ≤ 990 → option_map class_of (slice_get blocks n) ≡ Some DataClass
+  pub ends : option_map class_of (slice_get blocks 991) ≡ Some (End 7)

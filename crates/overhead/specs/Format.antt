@@ -5,9 +5,8 @@
 --   29 to 48  zero when sent; the remainder covers them, and a reader whose remainder fits takes any values
 --   49 to 55  the remainder of bits 10 to 48
 use Rattle.std.specs.Prelude.{ℕ, Bool, false, if◌then◌else◌, not, List, ◌++◌, take, drop, replicate, Ok, Err, Result, ◌==◌, nat_lt}
-use Rattle.bits.specs.Bits.{high_first, packed, field}
+use Rattle.bits.specs.Bits.{high_first, high_value, packed_bytes, field}
 use Rattle.crc.specs.Remainder.{remainder}
-use Rattle.crc.specs.Laws.{value}
 use Rattle.numbers.specs.Entries.{entry_of}
 use Rattle.overhead.specs.declared.Overhead.{Overhead}
 use Rattle.overhead.specs.declared.OverheadFault.{OverheadFault}
@@ -35,24 +34,24 @@ overhead_bits f = replicate 10 false ++ (covered_bits f ++ high_first 7 (remaind
 
 -- the bytes sent
 unfoldable pub overhead_bytes : Fields → List ℕ
-overhead_bytes f = packed 7 (overhead_bits f)
+overhead_bytes f = packed_bytes 7 (overhead_bits f)
 
 -- what bits 10 to 55 say
 abbrev pub fields_in : List Bool → Fields
-fields_in word = record { entry = value (take 10 word); frame = value (take 9 (drop 10 word)) }
+fields_in word = record { entry = high_value (take 10 word); frame = high_value (take 9 (drop 10 word)) }
 
 -- what each fault says of bits 10 to 55
-abbrev pub found : OverheadFault → List Bool → Bool
-found WrongRemainder word = not (value (drop 39 word) == remainder_of (take 39 word))
-found ClientTooHigh word = nat_lt 480 (fields_in word).entry
-found FrameTooHigh word = nat_lt 479 (fields_in word).frame
+abbrev pub shows_fault : OverheadFault → List Bool → Bool
+shows_fault WrongRemainder word = not (high_value (drop 39 word) == remainder_of (take 39 word))
+shows_fault ClientTooHigh word = nat_lt 480 (fields_in word).entry
+shows_fault FrameTooHigh word = nat_lt 479 (fields_in word).frame
 
 -- the first fault found, or what the bits say
 unfoldable pub read_word : List Bool → Result Fields OverheadFault
 read_word word =
-    if found WrongRemainder word then Err WrongRemainder
-    else if found ClientTooHigh word then Err ClientTooHigh
-    else if found FrameTooHigh word then Err FrameTooHigh
+    if shows_fault WrongRemainder word then Err WrongRemainder
+    else if shows_fault ClientTooHigh word then Err ClientTooHigh
+    else if shows_fault FrameTooHigh word then Err FrameTooHigh
     else Ok (fields_in word)
 
 -- what seven bytes are read as
@@ -60,6 +59,6 @@ unfoldable pub read_bytes : List ℕ → Result Fields OverheadFault
 read_bytes bytes = read_word (field bytes 10 56)
 
 -- the reader's answer, in numbers
-abbrev pub answered : Result Overhead OverheadFault → Result Fields OverheadFault
-answered (Ok o) = Ok (fields_of o)
-answered (Err e) = Err e
+abbrev pub fields_answer : Result Overhead OverheadFault → Result Fields OverheadFault
+fields_answer (Ok o) = Ok (fields_of o)
+fields_answer (Err e) = Err e

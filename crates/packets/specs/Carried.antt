@@ -6,7 +6,7 @@ use Rattle.packet.specs.Reading.{Found, packet_at}
 use Rattle.packet_report.specs.Texts.{carried_text, print_answer}
 use Rattle.refusal.specs.declared.Refusal.{Refusal}
 use Rattle.refusal.specs.declared.Refusal.TheVariants.{FormBroken, NoPacket, OutOfRange, OutputTooShort}
-use Rattle.numbers.specs.Range.{in_range}
+use Rattle.numbers.specs.Range.{is_one_to_480}
 use Rattle.port.specs.Model.{Holding}
 use Rattle.port.specs.Runs.{without_first}
 use Rattle.packet_inlet.specs.Stored.{PacketPut}
@@ -18,13 +18,13 @@ longest = 16384
 -- why a line is refused: it has not the form, its packet is too long, or its client is out of range
 abbrev pub LineRefused : Option (ℕ × List ℕ) → Refusal → Type 0
 LineRefused None cause = cause ≡ FormBroken
-LineRefused (Some line) cause = MatchBool (nat_le (length line.1) longest) ((in_range line.0 ≡ false) × (cause ≡ OutOfRange)) (cause ≡ OutputTooShort)
+LineRefused (Some line) cause = MatchBool (nat_le (length line.1) longest) ((is_one_to_480 line.0 ≡ false) × (cause ≡ OutOfRange)) (cause ≡ OutputTooShort)
 
 -- a line with the form, whose packet is not too long and whose client is in range: just the lines that are not refused
 pub record LineRead (line : Option (ℕ × List ℕ)) (client : ℕ) (packet : List ℕ) : Type 0 where
   pub form : line ≡ Some (client, packet)
   pub short : nat_le (length packet) longest ≡ true
-  pub lawful : in_range client ≡ true
+  pub lawful : is_one_to_480 client ≡ true
 
 -- a line's packet put into a store for its client; a line that is refused changes nothing
 pub record LineKept (line : Option (ℕ × List ℕ)) (r : Result ℕ Refusal) (before after : Holding) : Type 0 where

@@ -5,13 +5,13 @@ use Rattle.block.specs.declared.Block.{Block}
 use Rattle.block.specs.declared.Pair.{Pair}
 use Rattle.block.specs.declared.Sync.{Sync}
 use Rattle.block.specs.declared.Sync.TheVariants.{Zeros, Control, Data, Ones}
-use Rattle.block.specs.Syncs.{sync_bits}
+use Rattle.block.specs.Syncs.{sync_bits, sync_of}
 use Rattle.block.specs.Whole.{Whole, WholePair}
 use Rattle.block.proofs.Blocks.{same_block}
-use Rattle.bits.specs.Bits.{bits, low_value, packed}
+use Rattle.bits.specs.Bits.{bits, low_value, packed_bytes}
 use Rattle.bits.proofs.Packing.{length_packed, packed_below}
 use Rattle.bits.proofs.Places.{length_bits, numbered}
-use Rattle.payload.specs.Pairs.{block_bits, block_of, pair_bits, pair_of, sync_of}
+use Rattle.payload.specs.Pairs.{block_bits, block_of, pair_bits, pair_of}
 
 -- sync bits
 sync_length : (y : Sync) → length (sync_bits y) ≡ 2
@@ -45,11 +45,11 @@ block_back b w =
     let l : List Bool = bits b.bytes in
     same_block (block_of (block_bits b)) b
     (ap (λ (z : List Bool). sync_of (low_value z)) (take_at y l 2 (sync_length b.sync)) ∙ sync_back b.sync)
-    (ap (λ (z : List Bool). packed 8 z) (drop_at y l 2 (sync_length b.sync)) ∙ ap (λ (n : ℕ). packed n l) (sym w.0) ∙ numbered.packs b.bytes (λ i h. w.1 i))
+    (ap (λ (z : List Bool). packed_bytes 8 z) (drop_at y l 2 (sync_length b.sync)) ∙ ap (λ (n : ℕ). packed_bytes n l) (sym w.0) ∙ numbered.packs b.bytes (λ i h. w.1 i))
 
 block_bits_back : (l : List Bool) → length l ≡ 66 → block_bits (block_of l) ≡ l
 block_bits_back l e =
-    ap (λ (z : List Bool). z ++ bits (packed 8 (drop 2 l))) (sync_of_is (take 2 l) (length-take-le 2 l (omega arith)))
+    ap (λ (z : List Bool). z ++ bits (packed_bytes 8 (drop 2 l))) (sync_of_is (take 2 l) (length-take-le 2 l (omega arith)))
     ∙ ap (λ (z : List Bool). take 2 l ++ z) (numbered.unpacks 8 (drop 2 l) (length-drop 2 l ∙ omega arith))
     ∙ take-append-drop 2 l
 

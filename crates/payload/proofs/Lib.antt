@@ -3,3 +3,4 @@ pub mod Reading
 pub mod Writing
 pub mod Back
 pub mod Slots
+pub mod Payloads

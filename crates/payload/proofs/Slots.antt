@@ -8,7 +8,7 @@ use Rattle.std.proofs.lemmas.Bool.{cases_order}
 use Rattle.block.specs.declared.Sync.TheVariants.{Zeros}
 use Rattle.block.specs.Whole.{Bytes, WholePair}
 use Rattle.block.specs.declared.Pair.{Pair}
-use Rattle.bits.specs.Bits.{bits, packed}
+use Rattle.bits.specs.Bits.{bits, packed_bytes}
 use Rattle.bits.specs.Splices.{splice}
 use Rattle.bits.proofs.Places.{length_bits, numbered}
 use Rattle.bits.proofs.Splices.{splice_above, splice_below, splice_same}
@@ -94,7 +94,7 @@ pairs_packed p ps d h w e =
 -- and is the one payload that does
 pub payload_is : (p : List ℕ) (ps : List Pair) → length p ≡ 7920 → Bytes p → bits p ≡ flat_map pair_bits ps → p ≡ payload_of ps
 unfolding payload_of
-payload_is p ps h t e = sym (ap (λ (z : List Bool). packed 7920 z) (sym e) ∙ ap (λ (n : ℕ). packed n (bits p)) (sym h) ∙ numbered.packs p (λ i h. t i))
+payload_is p ps h t e = sym (ap (λ (z : List Bool). packed_bytes 7920 z) (sym e) ∙ ap (λ (n : ℕ). packed_bytes n (bits p)) (sym h) ∙ numbered.packs p (λ i h. t i))
 
 slices : (p : List ℕ) (a n : ℕ) → length p ≡ 7920 → a + n ≤ 480 →
     flat_map pair_bits (map (λ k. pair_at k p) (range_with_len (a + 1) n)) ≡ take (132 * n) (drop (132 * a) (bits p))

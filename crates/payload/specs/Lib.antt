@@ -1,3 +1,4 @@
 pub mod Pairs
 pub mod Payloads
 pub mod Places
+pub mod Laws

@@ -2,7 +2,7 @@
 use Rattle.std.specs.Prelude.{ℕ, Bool, ◌-◌, ◌*◌, List, map, take, drop}
 use Rattle.std.specs.List.{range_with_len, flat_map}
 use Rattle.block.specs.declared.Pair.{Pair}
-use Rattle.bits.specs.Bits.{bits, packed}
+use Rattle.bits.specs.Bits.{bits, packed_bytes}
 use Rattle.payload.specs.Pairs.{pair_bits, pair_of}
 
 -- the bit at which slot k begins
@@ -23,4 +23,4 @@ pairs_of payload = map (λ k. pair_at k payload) (range_with_len 1 480)
 
 -- the payload in which the pairs stand in the slots from 1 on
 unfoldable pub payload_of : List Pair → List ℕ
-payload_of pairs = packed 7920 (flat_map pair_bits pairs)
+payload_of pairs = packed_bytes 7920 (flat_map pair_bits pairs)

@@ -6,11 +6,13 @@
 ghost use Rattle.std.specs.Prelude.{◌≡◌, ◌+◌, ◌-◌, ◌*◌, ◌<◌, ◌≤◌, ◌⊎◌, ◌++◌, length, take, drop, slice_set};
 ghost use Rattle.block.specs.Whole.{Bytes, Whole, WholePair};
 ghost use Rattle.bits.specs.Bits.{bits, low_first};
+ghost use Rattle.numbers.specs.Range.{IsOneTo480};
+ghost use Rattle.payload.specs.Laws.{PayloadLaws};
 ghost use Rattle.bits.specs.Splices.{splice};
 ghost use Rattle.payload.specs.Pairs.{block_bits, pair_bits};
 ghost use Rattle.payload.specs.Payloads.{pair_at, pairs_of, payload_of, slot_bit, slot_bits};
 ghost use Rattle.payload.specs.Places.{place_bit};
-ghost use Rattle.std.specs.List.{flat_map};
+ghost use Rattle.std.specs.List.{All, flat_map};
 
 mod slot_place;
 
@@ -162,7 +164,8 @@ fn write_at(payload: &mut Payload, place: Place, pair: Pair)
 
 /// The bit of the payload at which a slot begins, counted from 0 in sending order: 132 for each slot before it.
 pub fn slot_bit(slot: SlotNumber) -> usize
-    ensures { result ≡ slot_bit slot }
+    ensures value { result ≡ slot_bit slot }
+    ensures range { IsOneTo480 slot }
 {
     match Place::of_slot(slot.index()) {
         Place::Low(start) => 8 * start.byte,
@@ -175,6 +178,8 @@ pub fn slot_bit(slot: SlotNumber) -> usize
 pub fn read_pair(payload: &Payload, slot: SlotNumber) -> Pair
     ensures made { result ≡ pair_at slot payload.now }
     ensures sent { pair_bits result ≡ slot_bits slot payload.now }
+    ensures whole { WholePair result }
+    ensures range { IsOneTo480 slot }
 {
     read_at(payload, Place::of_slot(slot.index()))
 }
@@ -184,6 +189,8 @@ pub fn read_pair(payload: &Payload, slot: SlotNumber) -> Pair
 pub fn write_pair(payload: &mut Payload, slot: SlotNumber, pair: Pair)
     ensures sent { bits payload.new ≡ splice (slot_bit slot) (pair_bits pair) (bits payload.old) }
     ensures made { pairs_of payload.new ≡ slice_set (pairs_of payload.old) (slot - 1) pair }
+    ensures whole { WholePair pair }
+    ensures range { IsOneTo480 slot }
 {
     write_at(payload, Place::of_slot(slot.index()), pair);
 }
@@ -193,6 +200,7 @@ pub fn pack(pairs: &[Pair; 480], payload: &mut Payload)
     ensures made { payload.new ≡ payload_of pairs.now }
     ensures sent { bits payload.new ≡ flat_map pair_bits pairs.now }
     ensures undone { pairs_of payload.new ≡ pairs.now }
+    ensures whole { All WholePair pairs.now }
 {
     // By twos, so that each call's half of the byte is known. A loop over the pairs, which tests it, takes about twice as long, and one
     // over chunks of two 1.03 times as long.
@@ -215,6 +223,7 @@ fn hold_bytes(payload: &Payload)
 pub fn unpack(payload: &Payload, pairs: &mut [Pair; 480])
     ensures made { pairs.new ≡ pairs_of payload.now }
     ensures undone { payload_of pairs.new ≡ payload.now }
+    ensures whole { All WholePair pairs.new }
 {
     // By twos, as in `pack`: a loop over the pairs takes 1.6 times as long, and nothing is promised of what a slice ends as that
     // `as_chunks_mut` took apart.
@@ -223,6 +232,12 @@ pub fn unpack(payload: &Payload, pairs: &mut [Pair; 480])
         pairs[2 * two + 1] = read_at(payload, Place::of_slot(2 * two + 1));
     }
 }
+
+/// How whole payloads and the pairs in their slots are made of each other.
+#[tactic(auto, using(crate::proofs::Payloads::payload_laws))]
+pub fn payload_laws()
+    ensures { PayloadLaws }
+{}
 
 #[cfg(test)]
 mod tests {

@@ -1,0 +1,3 @@
+pub mod Shape
+pub mod Back
+pub mod Only
