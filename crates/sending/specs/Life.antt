@@ -1,0 +1,69 @@
+-- Every life of a sender: made once, then its calls in any order, refused or not; between them anyone may change the inlets.
+use Rattle.std.specs.Prelude.{◌≡◌, ℕ, if◌then◌else◌, List, [], ◌∷◌, ◌++◌, Option}
+use Rattle.block.specs.declared.Block.{Block}
+use Rattle.port.specs.Model.{Lists}
+use Rattle.message.specs.declared.Kind.{Kind}
+use Rattle.schedule.specs.Cycle.{item_at, is_frame}
+use Rattle.sending.specs.Frames.{frame_blocks}
+use Rattle.sending.specs.Sender.{Made, State, Frame, fresh, next_frame_of, item_sent, sent, left_with}
+
+pub data Call : Type 0 where
+  -- a send, with what waits at the inlet then
+  send : Lists → Call
+  -- the leaving of a message by kind, none for a code that names none, and values, accepted or refused; an answer is the leaving of a 2DMR
+  leave : Option Kind → List ℕ → Call
+
+pub data Life : Type 0 where
+  made : Life
+  followed : Life → Call → Life
+
+abbrev pub after : Made → State → Call → State
+after m s (send waiting) = (sent m s waiting).state
+after m s (leave kind values) = left_with s kind values
+
+-- the state to which a life leads
+unfoldable pub state_of : Made → Life → State
+state_of m made = fresh
+state_of m (followed l c) = after m (state_of m l) c
+
+-- what goes on the line: a frame, or a gap block
+pub data LineItem : Type 0 where
+  frame : Frame → LineItem
+  gap : Block → LineItem
+
+-- the item that a send begins, if any
+abbrev pub begun_by : Made → State → Lists → List Block → List LineItem
+begun_by m s waiting [] =
+    (if is_frame (item_at s.position) then frame (next_frame_of m s waiting) else gap (item_sent m s waiting (item_at s.position)).block) ∷ []
+begun_by m s waiting (b ∷ bs) = []
+
+abbrev pub begun : Made → State → Lists → List LineItem
+begun m s waiting = begun_by m s waiting s.rest
+
+abbrev pub call_blocks : Made → State → Call → List Block
+call_blocks m s (send waiting) = (sent m s waiting).block ∷ []
+call_blocks m s (leave kind values) = []
+
+abbrev pub call_items : Made → State → Call → List LineItem
+call_items m s (send waiting) = begun m s waiting
+call_items m s (leave kind values) = []
+
+-- the blocks sent, in order
+unfoldable pub blocks : Made → Life → List Block
+blocks m made = []
+blocks m (followed l c) = blocks m l ++ call_blocks m (state_of m l) c
+
+-- the items begun, in order
+unfoldable pub items : Made → Life → List LineItem
+items m made = []
+items m (followed l c) = items m l ++ call_items m (state_of m l) c
+
+-- a life, and calls after it
+unfoldable pub longer : Life → List Call → Life
+longer l [] = l
+longer l (c ∷ cs) = longer (followed l c) cs
+
+-- a call makes a life longer by one: from the state that a life leads to, it leads on, and the call's blocks go on the line
+abbrev pub Follows : Made → State → Call → State → List Block → Type 0
+Follows m before c after sent_blocks =
+    (l : Life) → state_of m l ≡ before → (state_of m (followed l c) ≡ after) × (blocks m (followed l c) ≡ blocks m l ++ sent_blocks)
