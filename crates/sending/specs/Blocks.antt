@@ -3,7 +3,7 @@ use Rattle.std.specs.Prelude.{Bool, true, false, if◌then◌else◌, List, [], 
 use Rattle.block.specs.declared.Block.{Block}
 use Rattle.block.specs.declared.Class.{Class}
 use Rattle.block.specs.declared.Class.TheVariants.{Data, Idle, Characters, OrderedSet, Start, End, Unlawful}
-use Rattle.block.specs.Classes.{class_of, is_lawful, is_start}
+use Rattle.block.specs.Classes.{class_of, is_lawful, is_start, lawful_or_error}
 use Rattle.block.specs.Fixed.{error_block}
 
 unfoldable pub is_start_block : Block → Bool
@@ -26,7 +26,7 @@ is_lawful_block b = is_lawful (class_of b)
 
 -- in the place of an unlawful block stands the error block
 abbrev pub replaced : Block → Block
-replaced b = if is_lawful_block b then b else error_block
+replaced b = lawful_or_error b
 
 unfoldable pub without_idles : List Block → List Block
 without_idles [] = []

@@ -3,7 +3,7 @@ use Rattle.std.specs.Prelude.{ℕ, ◌*◌, if◌then◌else◌, List, [], ◌�
 use Rattle.block.specs.declared.Block.{Block}
 use Rattle.block.specs.declared.Pair.{Pair}
 use Rattle.block.specs.Fixed.{idle_block, error_block}
-use Rattle.port.specs.Model.{Lists, first_of, rest_of, taken}
+use Rattle.port.specs.Model.{Lists, first_of, rest_of, lists_after_next}
 use Rattle.calendar.specs.Share.{slot_count}
 use Rattle.sending.specs.Blocks.{replaced}
 
@@ -20,7 +20,7 @@ pair_laid entry waiting =
 
 -- and the lists that it leaves
 abbrev pub left_by_slot : ℕ → Lists → Lists
-left_by_slot entry waiting = if entry == 0 then waiting else taken entry (taken entry waiting)
+left_by_slot entry waiting = if entry == 0 then waiting else lists_after_next entry (lists_after_next entry waiting)
 
 -- over the slots, in order
 unfoldable pub pairs_laid : List ℕ → Lists → List Pair

@@ -6,6 +6,8 @@ use Rattle.block.specs.Fixed.{idle_block}
 use Rattle.message.specs.declared.Kind.{Kind}
 use Rattle.message.specs.declared.Kind.TheVariants.{Basic, Aps, Cv, OneDm, TwoDmm, TwoDmr, Cs}
 use Rattle.message.specs.Blocks.{read_of}
+use Rattle.waiting.specs.declared.Sort.{Sort}
+use Rattle.waiting.specs.declared.Sort.TheVariants.{Delay as delays, Protection as protections}
 use Rattle.message.specs.Values.{filled, lawful}
 use Rattle.message.specs.Written.{message_blocks}
 
@@ -17,55 +19,12 @@ cv_block trail i = slice_index_or (message_blocks Cv (filled (trail ++ 0 ∷ 0 �
 unfoldable pub cs_block : Block
 cs_block = slice_index_or (message_blocks Cs (filled (3 ∷ 0 ∷ []))) 0 idle_block
 
--- messages that may be left are of two sorts, and one of each sort may wait: delay messages go at low priority opportunities, APS at protection ones
-pub data Sort : Type 0 where
-  delays protections : Sort
-
-abbrev pub sort_of : Kind → Option Sort
-sort_of Basic = None
-sort_of Aps = Some protections
-sort_of Cv = None
-sort_of OneDm = Some delays
-sort_of TwoDmm = Some delays
-sort_of TwoDmr = Some delays
-sort_of Cs = None
-
+-- whether two sorts are the same
 abbrev pub same_sort : Sort → Sort → Bool
 same_sort delays delays = true
 same_sort delays protections = false
 same_sort protections delays = false
 same_sort protections protections = true
-
--- a message as it is left
-pub record Message : Type 0 where
-  pub sort : Sort
-  pub blocks : List Block
-
-unfoldable pub message_of_kind : Kind → List ℕ → Option Message
-message_of_kind kind values =
-    if lawful kind values then option_map (λ sort. record { sort = sort; blocks = message_blocks kind (filled values) }) (sort_of kind) else None
-
--- the message that a kind and values make, none where they make none that may be left; a code may name no kind
-abbrev pub message_of : Option Kind → List ℕ → Option Message
-message_of None values = None
-message_of (Some kind) values = message_of_kind kind values
-
--- what waits of a sort: a message's blocks, and how many of them are gone; with all of them gone none waits
-pub record Waiting : Type 0 where
-  pub blocks : List Block
-  pub gone : ℕ
-
-abbrev pub nothing_waits : Waiting
-nothing_waits = record { blocks = []; gone = 0 }
-
-abbrev pub waits : Waiting → Bool
-waits d = nat_lt d.gone (length d.blocks)
-
-abbrev pub next_block : Waiting → Block
-next_block d = slice_index_or d.blocks d.gone idle_block
-
-abbrev pub one_gone : Waiting → Waiting
-one_gone d = record { blocks = d.blocks; gone = d.gone + 1 }
 
 unfoldable pub is_message : Block → Bool
 is_message b = elim (read_of b) [ None ↦ false | Some m ↦ true ]

@@ -13,7 +13,10 @@ use Rattle.schedule.specs.declared.Item.TheVariants.{Frame as FrameItem, Idle, B
 use Rattle.schedule.specs.Cycle.{item_at, next_position, is_frame}
 use Rattle.sending.specs.Frames.{frame_blocks, frame_rest, next_frame}
 use Rattle.sending.specs.Laid.{pairs_laid, left_by_frame, given_for_frame}
-use Rattle.sending.specs.Messages.{cv_block, cs_block, Sort, delays, protections, Message, message_of, Waiting, nothing_waits, waits, next_block, one_gone}
+use Rattle.sending.specs.Messages.{cv_block, cs_block}
+use Rattle.waiting.specs.Messages.{Message, message_of, Waiting, nothing_waits, waits, next_block, one_gone}
+use Rattle.waiting.specs.declared.Sort.{Sort}
+use Rattle.waiting.specs.declared.Sort.TheVariants.{Delay as delays, Protection as protections}
 
 -- what a sender is made from: the calendar's 480 entries, and the 32 trail bytes of its CV message
 pub record Made : Type 0 where

@@ -1,0 +1,69 @@
+//! What can be done with a sender.
+
+ghost use Rattle.std.specs.Prelude.{◌≡◌, ◌<◌, [], ◌∷◌, Some, Ok};
+ghost use Rattle.calendar.specs.Entries.{entries_of};
+ghost use Rattle.message.specs.Kinds.{kind_of};
+ghost use Rattle.sending.specs.Life.{Follows, leave, send};
+ghost use Rattle.sending.specs.Messages.{cs_block, cv_block};
+ghost use Rattle.sending.specs.Sender.{frame_sent, fresh, leave_answer, left_with, sent};
+
+use crate::Sender;
+use crate::laying::lay;
+use block::Block;
+use calendar::Calendar;
+use message::{Kind, basic};
+use numbers::FrameNumber;
+use overhead::Overhead;
+use port::Inlet;
+use refusal::Refusal;
+use schedule::{Item, Position};
+use under_way::outgoing::Outgoing;
+use waiting::LeftMessages;
+
+impl Sender {
+    /// A sender for a calendar, with the 32 trail bytes of its CV message; nothing is sent, and no message waits.
+    pub fn new(calendar: Calendar, trail: [u8; 32]) -> Sender
+        ensures { result ≡ record { made = record { calendar = entries_of calendar; trail = trail }; state = fresh } }
+    {
+        Sender {
+            calendar,
+            trail,
+            frame: Outgoing::new(),
+            position: Position::first(),
+            number: FrameNumber::first(),
+            messages: LeftMessages::none(),
+        }
+    }
+
+    /// The next block of the path. Where it begins a frame, up to two blocks for each of a client's slots are taken from its list.
+    pub fn send<I: Inlet>(&mut self, inlet: &mut I) -> Block
+        ensures block { result ≡ (sent self.old.made self.old.state (I.waiting inlet.old)).block }
+        ensures sender { self.new ≡ record { made = self.old.made; state = (sent self.old.made self.old.state (I.waiting inlet.old)).state } }
+        ensures lists { I.waiting inlet.new ≡ (sent self.old.made self.old.state (I.waiting inlet.old)).waiting }
+        ensures life { Follows self.old.made self.old.state (send (I.waiting inlet.old)) self.new.state (result ∷ []) }
+    {
+        if let Some(block) = self.frame.next() {
+            return block;
+        }
+        self.begin_item(inlet)
+    }
+
+    /// Leaves a delay message (1DM, 2DMM, 2DMR) or an APS message by kind and value bytes, with zeros where the remainder goes. Refused are any
+    /// other kind and values that are not lawful for the kind (10), then a message of a sort of which one waits (9); the sender is then as before.
+    pub fn leave(&mut self, kind: Kind, values: &[u8]) -> Result<(), Refusal>
+        ensures answer { result ≡ leave_answer self.old.state (Some kind) values.now }
+        ensures sender { self.new ≡ record { made = self.old.made; state = left_with self.old.state (Some kind) values.now } }
+        ensures life { Follows self.old.made self.old.state (leave (Some kind) values.now) self.new.state [] }
+    {
+        self.messages.leave(kind, values)
+    }
+
+    /// The same by the code of a kind; a code that no kind has is refused with 10.
+    pub fn leave_code(&mut self, code: u8, values: &[u8]) -> Result<(), Refusal>
+        ensures answer { result ≡ leave_answer self.old.state (kind_of code) values.now }
+        ensures sender { self.new ≡ record { made = self.old.made; state = left_with self.old.state (kind_of code) values.now } }
+        ensures life { Follows self.old.made self.old.state (leave (kind_of code) values.now) self.new.state [] }
+    {
+        self.messages.leave_code(code, values)
+    }
+}
