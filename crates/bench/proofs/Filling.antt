@@ -6,9 +6,8 @@ use Rattle.std.proofs.lemmas.List.{append-nil, take_all, take_more_set}
 use Rattle.block.specs.declared.Block.{Block}
 use Rattle.block.specs.declared.Sync.{Sync}
 use Rattle.block.specs.declared.Sync.TheVariants.{Zeros, Control, Data, Ones}
-use Rattle.block.specs.Syncs.{sync_number}
+use Rattle.block.specs.Syncs.{sync_number, sync_of}
 use Rattle.block.specs.declared.Pair.{Pair}
-use Rattle.payload.specs.Pairs.{sync_of}
 use Rattle.bench.specs.Filled.{counted_block, next, pairs_from}
 
 -- sync bits are told by their number

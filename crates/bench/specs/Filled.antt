@@ -3,7 +3,7 @@ use Rattle.std.specs.Prelude.{ℕ, zero, suc, ◌*◌, ◌/◌, ◌%◌, ◌^◌
 use Rattle.std.specs.Int.{to_le_bytes, w64}
 use Rattle.block.specs.declared.Block.{Block}
 use Rattle.block.specs.declared.Pair.{Pair}
-use Rattle.payload.specs.Pairs.{sync_of}
+use Rattle.block.specs.Syncs.{sync_of}
 
 -- the next number, by shifts at 64 bits
 abbrev pub left : ℕ → ℕ → ℕ

@@ -1,7 +1,16 @@
 -- What overwriting a part of a list leaves, within the part and beside it.
-use Rattle.std.proofs.Common.{◌≡◌, ℕ, ◌+◌, ◌-◌, ◌≤◌, List, ◌++◌, length, take, drop, sym, refl, ap, ◌∙◌, append_assoc, arith, length-append, length-drop}
-use Rattle.std.proofs.lemmas.List.{drop_at, drop-drop, drop-append-le, drop-take, length-take-le, take-append-le, take_at, take-take}
+use Rattle.std.proofs.Common.{◌≡◌, ℕ, ◌+◌, ◌-◌, ◌≤◌, List, [], ◌++◌, length, take, drop, sym, refl, ap, ◌∙◌, add-zero, append_assoc, arith, length-append, length-drop}
+use Rattle.std.proofs.lemmas.List.{drop_at, drop-drop, drop-append-le, drop-take, length-take-le, take-append-drop, take-append-le, take_at, take-take}
 use Rattle.bits.specs.Splices.{splice}
+
+pub length_splice : {A : Type 0} (s : ℕ) (new old : List A) → s + length new ≤ length old → length (splice s new old) ≡ length old
+length_splice s new old room =
+    let front = length-take-le s old (omega arith) in
+    simp (length-append, length-drop) (omega arith)
+
+-- nothing put in place of nothing
+pub splice_none : {A : Type 0} (s : ℕ) (old : List A) → splice s [] old ≡ old
+splice_none s old = rw add-zero (take-append-drop s old)
 
 -- entries in the middle
 pub splice_at : {A : Type 0} (s : ℕ) (pre x post new : List A) → length pre ≡ s → length x ≡ length new →

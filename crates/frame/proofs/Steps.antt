@@ -10,8 +10,10 @@ use Rattle.block.specs.declared.Class.{Class}
 use Rattle.block.specs.declared.Class.TheVariants.{Data, End}
 use Rattle.block.specs.declared.Sync.TheVariants.{Control, Data as DataSync}
 use Rattle.block.specs.Classes.{class_of}
+use Rattle.block.specs.Told.{IsOfClass}
 use Rattle.block.specs.Fixed.{start_block}
 use Rattle.block.proofs.Blocks.{same_block}
+use Rattle.block.proofs.Classes.{classes_told}
 use Rattle.bits.specs.Splices.{splice}
 use Rattle.bits.proofs.Splices.{splice_below, splice_same}
 use Rattle.frame.specs.Frames.{Shaped, frame_block, frame_of}
@@ -19,7 +21,6 @@ use Rattle.frame.specs.Steps.{ByBlocks, CarriedStored, Closes, Grows, InParts, L
 use Rattle.frame.proofs.Carried.{frame_data}
 use Rattle.frame.proofs.Frames.{frame_at, frame_length, stored_carried}
 use Rattle.frame.proofs.Storing.{stored_data}
-use Rattle.frame.proofs.Told.{data_sync, end_told}
 
 pub leaves : Leaves
 leaves F n h =
@@ -64,7 +65,7 @@ grows F n b h k l w e =
     let at : get_or (frame_of (splice (8 * (n + 1 - 2)) b.bytes F)) n start_block ≡ b =
     frame_at (splice (8 * (n + 1 - 2)) b.bytes F) n start_block (omega arith)
     ∙ frame_data (splice (8 * (n + 1 - 2)) b.bytes F) (n + 1) x y
-    ∙ sym (same_block b (record { sync = DataSync; bytes = take 8 (drop (8 * (n + 1 - 2)) (splice (8 * (n + 1 - 2)) b.bytes F)) }) (data_sync b e)
+    ∙ sym (same_block b (record { sync = DataSync; bytes = take 8 (drop (8 * (n + 1 - 2)) (splice (8 * (n + 1 - 2)) b.bytes F)) }) ((classes_told b Data).0 e)
     (sym (splice_same s 8 b.bytes F (omega arith) w))) in
     ap (λ (C : List ℕ). take (n + 1) (frame_of C)) (stored_data (n + 1) b.bytes F x y)
     ∙ take_more (frame_of G) n start_block (omega (arith, frame_length (splice (8 * (n + 1 - 2)) b.bytes F)))
@@ -85,11 +86,11 @@ closes F b h w e =
     let new : List ℕ = drop 1 b.bytes in
     let G : List ℕ = splice 7920 (drop 1 b.bytes) F in
     let seven : length (drop 1 b.bytes) ≡ 7 = length-drop 1 b.bytes ∙ omega arith in
-    let told : (b.sync ≡ Control) × (get_or b.bytes 0 0 ≡ 0xFF) = end_told b e in
+    let told : IsOfClass (End 7) b = (classes_told b (End 7)).0 e in
     let at : get_or (frame_of (splice 7920 (drop 1 b.bytes) F)) 991 start_block ≡ b =
     frame_at (splice 7920 (drop 1 b.bytes) F) 991 start_block (omega arith)
     ∙ sym (same_block b (record { sync = Control; bytes = 0xFF ∷ drop 7920 (splice 7920 (drop 1 b.bytes) F) }) told.0
-    (sym (ap (λ (l : List ℕ). 0xFF ∷ l) (end_stored F new h seven) ∙ first_apart b.bytes 0xFF w told.1))) in
+    (sym (ap (λ (l : List ℕ). 0xFF ∷ l) (end_stored F new h seven) ∙ first_apart b.bytes 0xFF w told.2))) in
     sym (take_all 992 (frame_of G) (omega (arith, frame_length (splice 7920 (drop 1 b.bytes) F))))
     ∙ take_more (frame_of G) 991 start_block (omega (arith, frame_length (splice 7920 (drop 1 b.bytes) F)))
     ∙ ap₂ (λ (bs : List Block) (c : Block). bs ++ (c ∷ [])) (blocks_below F new 7920 991 (omega arith) (omega arith) (omega arith)) at

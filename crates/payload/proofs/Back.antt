@@ -5,13 +5,13 @@ use Rattle.block.specs.declared.Block.{Block}
 use Rattle.block.specs.declared.Pair.{Pair}
 use Rattle.block.specs.declared.Sync.{Sync}
 use Rattle.block.specs.declared.Sync.TheVariants.{Zeros, Control, Data, Ones}
-use Rattle.block.specs.Syncs.{sync_bits}
+use Rattle.block.specs.Syncs.{sync_bits, sync_of}
 use Rattle.block.specs.Whole.{Whole, WholePair}
 use Rattle.block.proofs.Blocks.{same_block}
 use Rattle.bits.specs.Bits.{bits, low_value, packed_bytes}
 use Rattle.bits.proofs.Packing.{length_packed, packed_below}
 use Rattle.bits.proofs.Places.{length_bits, numbered}
-use Rattle.payload.specs.Pairs.{block_bits, block_of, pair_bits, pair_of, sync_of}
+use Rattle.payload.specs.Pairs.{block_bits, block_of, pair_bits, pair_of}
 
 -- sync bits
 sync_length : (y : Sync) → length (sync_bits y) ≡ 2

@@ -1,10 +1,8 @@
 -- A pair of blocks as bits in sending order, and back.
-use Rattle.std.specs.Prelude.{ℕ, Bool, if◌then◌else◌, List, ◌++◌, take, drop, ◌==◌}
+use Rattle.std.specs.Prelude.{Bool, List, ◌++◌, take, drop}
 use Rattle.bits.specs.Bits.{bits, low_value, packed_bytes}
 use Rattle.block.specs.declared.Block.{Block}
-use Rattle.block.specs.declared.Sync.{Sync}
-use Rattle.block.specs.declared.Sync.TheVariants.{Zeros, Control, Data, Ones}
-use Rattle.block.specs.Syncs.{sync_bits}
+use Rattle.block.specs.Syncs.{sync_bits, sync_of}
 use Rattle.block.specs.declared.Pair.{Pair}
 
 -- a block: its sync bits, then its eight bytes
@@ -14,10 +12,6 @@ block_bits b = sync_bits b.sync ++ bits b.bytes
 -- a pair: its first block, then its second
 abbrev pub pair_bits : Pair → List Bool
 pair_bits p = block_bits p.first ++ block_bits p.second
-
--- the sync that has this number
-abbrev pub sync_of : ℕ → Sync
-sync_of n = if n == 0 then Zeros else if n == 1 then Control else if n == 2 then Data else Ones
 
 -- the block that 66 bits write
 abbrev pub block_of : List Bool → Block

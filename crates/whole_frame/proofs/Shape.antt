@@ -11,6 +11,7 @@ use Rattle.block.specs.declared.Sync.{Sync}
 use Rattle.block.specs.declared.Sync.TheVariants.{Data as DataSync}
 use Rattle.block.specs.declared.Class.TheVariants.{Data, End}
 use Rattle.block.specs.Classes.{class_of}
+use Rattle.block.proofs.Classes.{classes_told}
 use Rattle.block.specs.Fixed.{start_block}
 use Rattle.block.specs.Whole.{Bytes, Whole}
 use Rattle.payload.specs.Payloads.{payload_of}
@@ -19,7 +20,6 @@ use Rattle.overhead.proofs.Coding.{coded as overhead_coded, overhead_seven}
 use Rattle.frame.specs.Frames.{Shaped, frame_block, frame_of}
 use Rattle.frame.proofs.Carried.{frame_data}
 use Rattle.frame.proofs.Frames.{frame_at, frame_length, frame_shaped}
-use Rattle.frame.proofs.Told.{data_sync}
 use Rattle.whole_frame.specs.Meaning.{frame_written}
 use Rattle.whole_frame.specs.Laws.{Altered, AlteredShaped}
 use Rattle.whole_frame.proofs.Payloads.{payload_is_bytes, payload_length}
@@ -29,9 +29,6 @@ unfolding frame_written
 written_shaped f pairs = frame_shaped (overhead_bytes f ++ payload_of pairs)
 
 -- ---- another second block
-data_class : (b : Block) → b.sync ≡ DataSync → class_of b ≡ Data
-data_class b e = ap (λ (s : Sync). let c : Block = record { sync = s; bytes = b.bytes } in class_of c) e
-
 -- the class of every other entry stays
 other_at : (a b c : Block) (rest : List Block) (n : ℕ) → (n ≡ 1 → ⊥) → slice_get (a ∷ c ∷ rest) n ≡ slice_get (a ∷ b ∷ rest) n
 other_at a b c rest zero h = refl
@@ -46,7 +43,7 @@ same_shape a b c rest s e =
       many = s.many;
       opens = s.opens;
       data_blocks = λ n h k.
-          ⊎_elim (λ (z : n ≡ 1). ap (λ (i : ℕ). option_map class_of (slice_get (a ∷ c ∷ rest) i)) z ∙ ap Some (data_class c (e ∙ data_sync b load)))
+          ⊎_elim (λ (z : n ≡ 1). ap (λ (i : ℕ). option_map class_of (slice_get (a ∷ c ∷ rest) i)) z ∙ ap Some ((classes_told c Data).1 (e ∙ (classes_told b Data).0 load)))
           (λ z. ap (option_map class_of) (other_at a b c rest n z) ∙ s.data_blocks n h k)
           (cases_eq n 1);
       ends = ap (option_map class_of) (other_at a b c rest 991 (λ z. omega arith)) ∙ s.ends;

@@ -1,4 +1,4 @@
-use Rattle.std.proofs.Common.{◌≡◌, ℕ, List, ◌++◌, length, sym, ap, ◌∙◌, arith, length-append}
+use Rattle.std.proofs.Common.{ℕ, List, ◌++◌, sym, ap, ◌∙◌, arith, length-append}
 use Rattle.frame.specs.Frames.{stored}
 use Rattle.under_way.proofs.Comings.{after_refusal, counted, ends_next, finished, too_early}
 use Rattle.under_way.proofs.incoming.Incoming.finish.Goals as goal

@@ -1,4 +1,4 @@
-use Rattle.std.proofs.Common.{◌≡◌, ℕ, List, ◌++◌, length, sym, ◌∙◌, arith, length-append}
+use Rattle.std.proofs.Common.{◌++◌, sym, ◌∙◌, arith, length-append}
 use Rattle.under_way.proofs.Comings.{counted, fits_next, grown, not_grown, other_place}
 use Rattle.under_way.proofs.incoming.Incoming.grow.Goals as goal
 
