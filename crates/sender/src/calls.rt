@@ -1,11 +1,15 @@
 //! What can be done with a sender.
 
-ghost use Rattle.std.specs.Prelude.{◌≡◌, ◌<◌, [], ◌∷◌, Some, Ok};
+ghost use Rattle.std.specs.Prelude.{◌≡◌, ◌<◌, [], ◌∷◌, Some, length};
+ghost use Rattle.block.specs.Fixed.{start_block};
 ghost use Rattle.calendar.specs.Entries.{entries_of};
 ghost use Rattle.message.specs.Kinds.{kind_of};
 ghost use Rattle.sending.specs.Life.{Follows, leave, send};
 ghost use Rattle.sending.specs.Messages.{cs_block, cv_block};
-ghost use Rattle.sending.specs.Sender.{frame_sent, fresh, leave_answer, left_with, sent};
+ghost use Rattle.schedule.specs.Cycle.{item_at};
+ghost use Rattle.sender.specs.Seen.{with_frame};
+ghost use Rattle.sending.specs.Laid.{left_by_frame};
+ghost use Rattle.sending.specs.Sender.{fresh, item_sent, leave_answer, left_with, sent};
 
 use crate::Sender;
 use crate::laying::lay;
@@ -66,4 +70,65 @@ impl Sender {
     {
         self.messages.leave_code(code, values)
     }
+
+    // Begins what stands next in the schedule, between frames.
+    fn begin_item<I: Inlet>(&mut self, inlet: &mut I) -> Block
+        requires { self.old.state.rest ≡ [] }
+        ensures block { result ≡ (item_sent self.old.made self.old.state (I.waiting inlet.old) (item_at self.old.state.position)).block }
+        ensures sender { self.new ≡ record { made = self.old.made; state = (item_sent self.old.made self.old.state (I.waiting inlet.old) (item_at self.old.state.position)).state } }
+        ensures lists { I.waiting inlet.new ≡ (item_sent self.old.made self.old.state (I.waiting inlet.old) (item_at self.old.state.position)).waiting }
+    {
+        let item = self.position.item();
+        self.position = self.position.next();
+        match item {
+            Item::Frame => self.begin_frame(inlet),
+            Item::Idle | Item::Spare => Block::idle(),
+            Item::Basic(mark) => basic(mark),
+            Item::Protection => self.messages.protection_block().unwrap_or(Block::idle()),
+            Item::Verification(block) => verification_block(&self.trail, block),
+            Item::ClientSignal => client_signal_block(),
+            Item::Delay(block) => self.messages.delay_block(block).unwrap_or(Block::idle()),
+        }
+    }
+
+    // Lays the pairs of the next frame, begins it, and answers its start block.
+    fn begin_frame<I: Inlet>(&mut self, inlet: &mut I) -> Block
+        requires { self.old.state.rest ≡ [] }
+        ensures block { result ≡ start_block }
+        ensures sender { self.new ≡ record { made = self.old.made; state = with_frame self.old.made self.old.state (I.waiting inlet.old) } }
+        ensures lists { I.waiting inlet.new ≡ left_by_frame self.old.made.calendar (I.waiting inlet.old) }
+    {
+        lay(&self.calendar, inlet, &mut self.frame);
+        let announced = self.calendar.client(self.number.slot());
+        self.frame.begin(Overhead {
+            announced,
+            frame: self.number,
+        });
+        self.number = self.number.next();
+        self.frame.next().unwrap()
+    }
+}
+
+// A block of the CV message over the trail bytes.
+fn verification_block(trail: &[u8; 32], block: u8) -> Block
+    requires few { block < 17 }
+    requires long { length trail.now ≡ 32 }
+    ensures { result ≡ cv_block trail.now block }
+{
+    let mut values = [0; 34];
+    values[..32].copy_from_slice(trail);
+    let mut blocks = [Block::idle(); 17];
+    // a lawful message, for which there are places
+    let _ = message::write(Kind::Cv, &values, &mut blocks);
+    blocks[block as usize]
+}
+
+// The CS message, with payload type 11.
+fn client_signal_block() -> Block
+    ensures { result ≡ cs_block }
+{
+    let mut blocks = [Block::idle(); 1];
+    // a lawful message, for which there is a place
+    let _ = message::write(Kind::Cs, &[3, 0], &mut blocks);
+    blocks[0]
 }

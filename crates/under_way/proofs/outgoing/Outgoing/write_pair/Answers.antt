@@ -1,4 +1,5 @@
-use Rattle.under_way.proofs.Leavings.{free_answer, pair_written, sending_answer, sending_kept}
+use Rattle.payload.proofs.Slots.{pairs_length}
+use Rattle.under_way.proofs.Leavings.{free_answer, pair_written, sending_answer, sending_kept, slots_there}
 use Rattle.under_way.proofs.outgoing.Outgoing.write_pair.Goals as goal
 
 pub returns-then-self-lt992-clause-answer : goal.returns-then-self-lt992-clause-answer
@@ -17,3 +18,9 @@ pub returns-clause-written : goal.returns-clause-written
 returns-clause-written c =
     pair_written c.args.slot c.args.pair c.self.inside.overhead c.self.inside.payload c.write_pair.new.payload c.self.inside.gone c.args.self.now
     c.if-self-lt992.false c.self.view_is c.write_pair.ensures.made
+
+pub returns-then-self-lt992-clause-slots : goal.returns-then-self-lt992-clause-slots
+returns-then-self-lt992-clause-slots c = slots_there c.self.inside.overhead c.self.inside.payload c.self.inside.gone c.args.self.now c.self.view_is
+
+pub returns-clause-slots : goal.returns-clause-slots
+returns-clause-slots c = pairs_length c.write_pair.new.payload
