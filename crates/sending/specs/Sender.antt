@@ -96,7 +96,7 @@ item_sent m s waiting Protection =
 item_sent m s waiting (Verification block) = own_sent s waiting (cv_block m.trail block)
 item_sent m s waiting ClientSignal = own_sent s waiting cs_block
 item_sent m s waiting (Delay block) =
-    if waits s.delay && block == s.delay.gone then gap_sent s waiting (next_block s.delay) (one_gone s.delay) s.protection
+    if block == s.delay.gone && waits s.delay then gap_sent s waiting (next_block s.delay) (one_gone s.delay) s.protection
     else own_sent s waiting idle_block
 item_sent m s waiting Spare = own_sent s waiting idle_block
 
