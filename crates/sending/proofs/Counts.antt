@@ -1,5 +1,5 @@
 -- Position and frame number go with the number of items begun.
-use Rattle.std.proofs.Common.{◌≡◌, ℕ, ◌+◌, ◌/◌, ◌%◌, ◌*◌, Bool, true, false, sym, refl, ap, ◌∙◌, arith}
+use Rattle.std.proofs.Common.{◌≡◌, ℕ, ◌+◌, ◌%◌, true, false, sym, refl, ap, ◌∙◌, arith}
 use Rattle.port.specs.Model.{Lists}
 use Rattle.schedule.specs.Cycle.{item_at, is_frame, frames_before, next_position, round_items}
 use Rattle.schedule.proofs.Counts.{comes_again, frame_even, frame_odd, frames_more, frames_same}

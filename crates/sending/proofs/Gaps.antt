@@ -1,15 +1,15 @@
 -- What a gap block is.
-use Rattle.std.proofs.Common.{◌≡◌, ℕ, ◌+◌, ◌<◌, ◌≤◌, Bool, true, false, cond, ◌&&◌, eqb, List, length, Some, None, Option, sym, refl, ap, ◌∙◌, inl, inr, subst, arith}
-use Rattle.std.proofs.lemmas.Bool.{eqb-true, ltb-true, and_parts, both_ways, cond_both}
+use Rattle.std.proofs.Common.{◌≡◌, ℕ, ◌≤◌, Bool, true, false, cond, ◌&&◌, eqb, List, length, Some, None, Option, sym, refl, ap, inl, inr, subst, arith}
+use Rattle.std.proofs.lemmas.Bool.{ltb-true, and_parts, both_ways}
 use Rattle.block.specs.declared.Block.{Block}
 use Rattle.port.specs.Model.{Lists}
 use Rattle.block.specs.Fixed.{idle_block}
 use Rattle.message.specs.declared.Kind.{Kind}
 use Rattle.schedule.specs.declared.Item.{Item}
 use Rattle.schedule.specs.declared.Item.TheVariants.{Frame as FrameItem, Idle, Basic, Protection, Verification, ClientSignal, Delay, Spare}
-use Rattle.schedule.specs.Cycle.{item_at, is_frame}
+use Rattle.schedule.specs.Cycle.{is_frame}
 use Rattle.sending.specs.Messages.{is_message, Sort, delays, protections, Message, message_of, Waiting, nothing_waits, waits, next_block, one_gone}
-use Rattle.sending.specs.Sender.{Made, State, Sent, fresh, frame_sent, gap_sent, own_sent, item_sent, sent_by, waiting_of, with_waiting, with_message, accepted}
+use Rattle.sending.specs.Sender.{Made, State, fresh, frame_sent, gap_sent, own_sent, item_sent, waiting_of, with_waiting, with_message, accepted}
 use Rattle.sending.specs.LineLaws.{IdleOrMessage, GapStands}
 use Rattle.sending.proofs.Codes.{all_messages, most_blocks, IsSound, message_of_sound, at_message}
 
@@ -106,7 +106,7 @@ pub waiting_with : (s : State) (q : Sort) (d : Waiting) → waiting_of (with_wai
 waiting_with s delays d = refl
 waiting_with s protections d = refl
 
-accepted_is : (s : State) (o : Option Message) (x : Message) → accepted s o ≡ Some x → o ≡ Some x
+pub accepted_is : (s : State) (o : Option Message) (x : Message) → accepted s o ≡ Some x → o ≡ Some x
 accepted_is s None x e = absurd (cc)
 accepted_is s (Some y) x e = go (waits (waiting_of s y.sort)) e
   where

@@ -1,11 +1,11 @@
 -- The blocks sent are the blocks of the items.
-use Rattle.std.proofs.Common.{◌≡◌, ℕ, Bool, true, false, List, [], ◌∷◌, ◌++◌, sym, refl, ap, ◌∙◌, inl, inr, append_assoc, append-nil, arith}
+use Rattle.std.proofs.Common.{◌≡◌, ℕ, List, [], ◌∷◌, ◌++◌, sym, refl, ap, ◌∙◌, inl, inr, append_assoc, append-nil, arith}
 use Rattle.block.specs.declared.Block.{Block}
 use Rattle.port.specs.Model.{Lists}
 use Rattle.block.specs.Fixed.{start_block}
 use Rattle.schedule.specs.Cycle.{item_at}
 use Rattle.sending.specs.Messages.{message_of}
-use Rattle.sending.specs.Sender.{Made, State, Frame, next_frame_of, frame_sent, item_sent, sent_by, accepted}
+use Rattle.sending.specs.Sender.{Made, State, next_frame_of, frame_sent, item_sent, sent_by, accepted}
 use Rattle.sending.specs.Life.{LineItem, frame, gap, made, followed, send, leave, state_of, begun_by, blocks, items}
 use Rattle.sending.specs.LineLaws.{blocks_of_item, joined, Lined, SendsItsItems}
 use Rattle.sending.proofs.Frames.{frame_opens}

@@ -1,10 +1,9 @@
 -- Every item stands in its place.
-use Rattle.std.proofs.Common.{◌≡◌, ℕ, zero, suc, ◌+◌, ◌*◌, ◌%◌, Bool, true, false, cond, eqb, ◌⊎◌, List, [], ◌∷◌, ◌++◌, length, take, drop, sym, refl, ap, ◌∙◌, inl, inr, subst, append-nil, arith, length-append, length-drop, length-take}
+use Rattle.std.proofs.Common.{◌≡◌, ℕ, zero, suc, ◌+◌, ◌*◌, Bool, true, false, cond, eqb, ◌⊎◌, List, [], ◌∷◌, ◌++◌, length, take, drop, sym, refl, ap, ◌∙◌, inl, inr, subst, append-nil, arith, length-append, length-drop, length-take}
 use Rattle.std.proofs.lemmas.List.{length_push, take-append-drop}
 use Rattle.std.proofs.lemmas.Bool.{cond-true, eq-eqb}
 use Rattle.block.specs.declared.Block.{Block}
 use Rattle.port.specs.Model.{Lists}
-use Rattle.block.specs.declared.Pair.{Pair}
 use Rattle.calendar.specs.Share.{slot_count}
 use Rattle.schedule.specs.Cycle.{item_at, is_frame, frames_before}
 use Rattle.schedule.specs.declared.Item.{Item}
@@ -12,14 +11,14 @@ use Rattle.schedule.specs.declared.Item.TheVariants.{Frame as FrameItem, Idle, B
 use Rattle.schedule.proofs.Counts.{frames_more, frames_same, frame_even, frame_odd}
 use Rattle.schedule.proofs.Items.{view}
 use Rattle.sending.specs.Messages.{message_of}
-use Rattle.sending.specs.Laid.{pairs_laid, left_by_frame, left_by_slot, room_for, given_for_frame}
-use Rattle.sending.specs.Sender.{Made, State, frame_sent, item_sent, sent_by, next_frame_of, begins_frame_by, accepted, with_message}
+use Rattle.sending.specs.Laid.{pairs_laid, room_for}
+use Rattle.sending.specs.Sender.{Made, State, frame_sent, item_sent, sent_by, next_frame_of, begins_frame_by, accepted}
 use Rattle.sending.specs.Life.{Life, LineItem, frame, gap, made, followed, send, leave, state_of, begun_by, items}
 use Rattle.sending.specs.LineLaws.{Each, Stands, FrameStands, GapStands, ItemsInPlace, NoStart, GapsNeverStart, IdleOrMessage, joined, frame_count, CyclesWhole}
 use Rattle.sending.specs.ClientLaws.{Carries, FramesCarry, given_for, TakesWaiting, GivenLeaves, OthersKeep}
 use Rattle.sending.proofs.Frames.{length-frame_blocks}
 use Rattle.sending.proofs.Codes.{basic_message, cv_sort, cs_sort, gap_no_start}
-use Rattle.sending.proofs.Steps.{Gapped, Begins, a_frame, a_gap, begins, message_kept}
+use Rattle.sending.proofs.Steps.{Begins, a_frame, a_gap, begins, message_kept}
 use Rattle.sending.proofs.Counts.{Counted, counted_none, due_item, counted_frame, counted_gap, counted_kept}
 use Rattle.sending.proofs.Gaps.{Sound, sound_none, sound_item, sound_more, sound_leave, gap_stands}
 use Rattle.sending.proofs.Carry.{carried, left_frame}
@@ -46,7 +45,7 @@ unfolding pairs_laid
 length-pairs_laid [] w = refl
 length-pairs_laid (c ∷ cs) w = ap suc (length-pairs_laid cs _)
 
-frame_item : (x : Item) → is_frame x ≡ true → x ≡ FrameItem
+pub frame_item : (x : Item) → is_frame x ≡ true → x ≡ FrameItem
 frame_item FrameItem e = refl
 frame_item Idle e = absurd (cc)
 frame_item (Basic k) e = absurd (cc)

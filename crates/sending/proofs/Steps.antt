@@ -1,5 +1,5 @@
 -- What a send does where an item begins: it begins a frame, or sends a gap block.
-use Rattle.std.proofs.Common.{◌≡◌, ◌%◌, ◌+◌, Bool, true, false, cond, eqb, ◌&&◌, [], Some, None, Option, refl}
+use Rattle.std.proofs.Common.{◌≡◌, Bool, true, false, cond, eqb, ◌&&◌, [], Some, None, Option, refl}
 use Rattle.port.specs.Model.{Lists}
 use Rattle.block.specs.declared.Block.{Block}
 use Rattle.block.specs.Fixed.{idle_block}

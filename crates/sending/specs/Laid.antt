@@ -1,5 +1,5 @@
 -- What a frame takes from the clients' lists, and lays into its slots: two blocks to a slot, slots 1 to 480 in order.
-use Rattle.std.specs.Prelude.{ℕ, ◌*◌, if◌then◌else◌, List, [], ◌∷◌, ◌++◌, Some, None, Option, ◌==◌, take}
+use Rattle.std.specs.Prelude.{ℕ, ◌*◌, if◌then◌else◌, List, [], ◌∷◌, Some, None, Option, ◌==◌, take}
 use Rattle.block.specs.declared.Block.{Block}
 use Rattle.block.specs.declared.Pair.{Pair}
 use Rattle.block.specs.Fixed.{idle_block, error_block}

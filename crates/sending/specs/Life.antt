@@ -4,7 +4,6 @@ use Rattle.block.specs.declared.Block.{Block}
 use Rattle.port.specs.Model.{Lists}
 use Rattle.message.specs.declared.Kind.{Kind}
 use Rattle.schedule.specs.Cycle.{item_at, is_frame}
-use Rattle.sending.specs.Frames.{frame_blocks}
 use Rattle.sending.specs.Sender.{Made, State, Frame, fresh, next_frame_of, item_sent, sent, left_with}
 
 pub data Call : Type 0 where

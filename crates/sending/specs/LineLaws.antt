@@ -1,5 +1,5 @@
 -- What stands on the line, in every life of a sender.
-use Rattle.std.specs.Prelude.{◌≡◌, ℕ, ◌+◌, ◌*◌, ◌/◌, ◌%◌, ◌<◌, ◌≤◌, ◌⊎◌, IsTrue, IsFalse, List, [], ◌∷◌, ◌++◌, length, take, drop, slice_index}
+use Rattle.std.specs.Prelude.{◌≡◌, ℕ, ◌+◌, ◌*◌, ◌%◌, ◌<◌, ◌≤◌, ◌⊎◌, IsTrue, IsFalse, List, [], ◌∷◌, ◌++◌, length, take, drop, slice_index}
 use Rattle.block.specs.declared.Block.{Block}
 use Rattle.block.specs.Fixed.{idle_block, start_block}
 use Rattle.message.specs.Written.{basic_block}

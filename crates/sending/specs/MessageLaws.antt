@@ -6,7 +6,7 @@ use Rattle.schedule.specs.declared.Item.{Item}
 use Rattle.schedule.specs.declared.Item.TheVariants.{Frame, Idle, Basic, Protection, Verification, ClientSignal, Delay, Spare}
 use Rattle.schedule.specs.Cycle.{item_at, low_priority_item, protection_item, round_items}
 use Rattle.sending.specs.Blocks.{is_idle}
-use Rattle.sending.specs.Messages.{Sort, delays, protections, same_sort, Message, message_of, Waiting, waits}
+use Rattle.sending.specs.Messages.{Sort, delays, protections, same_sort, Message, message_of, waits}
 use Rattle.sending.specs.Sender.{Made, State, waiting_of, accepted}
 use Rattle.sending.specs.Life.{Call, Life, LineItem, frame, gap, made, followed, send, leave, state_of, items, longer}
 

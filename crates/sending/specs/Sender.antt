@@ -11,7 +11,7 @@ use Rattle.message.specs.Written.{basic_block}
 use Rattle.schedule.specs.declared.Item.{Item}
 use Rattle.schedule.specs.declared.Item.TheVariants.{Frame as FrameItem, Idle, Basic, Protection, Verification, ClientSignal, Delay, Spare}
 use Rattle.schedule.specs.Cycle.{item_at, next_position, is_frame}
-use Rattle.sending.specs.Frames.{frame_blocks, frame_rest, next_frame}
+use Rattle.sending.specs.Frames.{frame_rest, next_frame}
 use Rattle.sending.specs.Laid.{pairs_laid, left_by_frame, given_for_frame}
 use Rattle.sending.specs.Messages.{cv_block, cs_block, Sort, delays, protections, Message, message_of, Waiting, nothing_waits, waits, next_block, one_gone}
 
