@@ -1,9 +1,9 @@
 -- Which numbers are client and slot numbers, and which are frame numbers.
-use Rattle.std.specs.Prelude.{ℕ, ◌≤◌, Bool, false, if◌then◌else◌, Ok, Err, Result, nat_le}
+use Rattle.std.specs.Prelude.{ℕ, ◌+◌, ◌≤◌, Bool, false, if◌then◌else◌, Some, None, Ok, Err, Option, Result, nat_le, nat_lt}
 use Rattle.refusal.specs.declared.Refusal.{Refusal}
 use Rattle.refusal.specs.declared.Refusal.TheVariants.{OutOfRange}
 
--- slots of a calendar, and so clients of it at most
+-- slots of a frame and of a calendar, frames of a multiframe, and so clients at most
 abbrev pub slots : ℕ
 slots = 480
 
@@ -21,3 +21,7 @@ checked n = if in_range n then Ok n else Err OutOfRange
 -- what the conversion to a frame number answers: frames are numbered from 0
 abbrev pub checked_frame : ℕ → Result ℕ Refusal
 checked_frame n = if nat_le slots n then Err OutOfRange else Ok n
+
+-- the client or slot number at a place, counted from 0
+abbrev pub number_at : ℕ → Option ℕ
+number_at i = if nat_lt i slots then Some (i + 1) else None

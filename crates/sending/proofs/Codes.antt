@@ -18,8 +18,8 @@ use Rattle.message.specs.Written.{block_at, basic_block, message_blocks}
 use Rattle.message.proofs.ReadBacks.{read_back}
 use Rattle.message.proofs.Pairs.{length_paired}
 use Rattle.message.proofs.Laws.{filled_length}
-use Rattle.sending.specs.Blocks.{is_start_block, is_idle}
-use Rattle.sending.specs.Messages.{is_message, cv_block, cs_block, Sort, delays, protections, sort_of, Message, message_of_kind, message_of}
+use Rattle.sending.specs.Blocks.{is_start_block, is_idle_block}
+use Rattle.sending.specs.Messages.{is_message, cv_block, cs_block, Sort, delays, protections, sort_of, Sendable, sendable_of_kind, sendable_of}
 use Rattle.sending.specs.LineLaws.{IdleOrMessage}
 
 abbrev pub all_messages : List Block → Bool
@@ -38,8 +38,8 @@ pub basic_message : (mark : Mark) → is_message (basic_block mark) ≡ true
 basic_message Start = message_is Basic true false 0 0
 basic_message End = message_is Basic false true 0 0
 
-pub idle_idle : is_idle idle_block ≡ true
-unfolding is_idle
+pub idle_idle : is_idle_block idle_block ≡ true
+unfolding is_idle_block
 idle_idle = refl
 
 pub at_message : (bs : List Block) (i : ℕ) → all_messages bs ≡ true → i < length bs → is_message (get_or bs i idle_block) ≡ true
@@ -65,7 +65,7 @@ abbrev pub most_blocks : Sort → ℕ
 most_blocks delays = 13
 most_blocks protections = 2
 
-pub record IsSound (x : Message) : Type 0 where
+pub record IsSound (x : Sendable) : Type 0 where
   pub all : all_messages x.blocks ≡ true
   pub some : 0 < length x.blocks
   pub few : length x.blocks ≤ most_blocks x.sort
@@ -106,21 +106,21 @@ message_sound k vs q e h = record {
   few = omega (arith, length-message k vs h, few_blocks k q e);
 }
 
-made_by : (k : Kind) (vs : List ℕ) (x : Message) → message_of_kind k vs ≡ Some x → IsSound x
-unfolding message_of_kind
+made_by : (k : Kind) (vs : List ℕ) (x : Sendable) → sendable_of_kind k vs ≡ Some x → IsSound x
+unfolding sendable_of_kind
 made_by k vs x e = go (lawful k vs) (sort_of k) refl refl
   where
     go : (t : Bool) (o : Option Sort) → lawful k vs ≡ t → sort_of k ≡ o → IsSound x
     go true (Some q) p r =
         let f = rw (p, r) at e in
-        let z : ◌≡◌ {A = Message} (record { sort = q; blocks = message_blocks k (filled vs) }) x = cc in
+        let z : ◌≡◌ {A = Sendable} (record { sort = q; blocks = message_blocks k (filled vs) }) x = cc in
         subst IsSound z (message_sound k vs q r p)
     go true None p r = let f = rw (p, r) at e in absurd (cc)
     go false o p r = let f = rw p at e in absurd (cc)
 
-pub message_of_sound : (k : Option Kind) (vs : List ℕ) (x : Message) → message_of k vs ≡ Some x → IsSound x
-message_of_sound None vs x e = absurd (cc)
-message_of_sound (Some k) vs x e = made_by k vs x e
+pub sendable_sound : (k : Option Kind) (vs : List ℕ) (x : Sendable) → sendable_of k vs ≡ Some x → IsSound x
+sendable_sound None vs x e = absurd (cc)
+sendable_sound (Some k) vs x e = made_by k vs x e
 
 -- ---- no message is a start or an idle
 option_true : (o : Option MessageBlock) → elim o [ None ↦ false | Some m ↦ true ] ≡ true → (m : MessageBlock) × (o ≡ Some m)
@@ -148,8 +148,8 @@ no_start Control bytes h =
 no_start Data bytes h = refl
 no_start Ones bytes h = refl
 
-no_idle : (s : Sync) (bytes : List ℕ) → is_message (of s bytes) ≡ true → is_idle (of s bytes) ≡ false
-unfolding is_message is_idle
+no_idle : (s : Sync) (bytes : List ℕ) → is_message (of s bytes) ≡ true → is_idle_block (of s bytes) ≡ false
+unfolding is_message is_idle_block
 no_idle Zeros bytes h = refl
 no_idle Control bytes h =
     let o = option_true (bytes_say bytes) h in
@@ -157,7 +157,7 @@ no_idle Control bytes h =
 no_idle Data bytes h = refl
 no_idle Ones bytes h = refl
 
-pub message_no_idle : (b : Block) → is_message b ≡ true → is_idle b ≡ false
+pub message_no_idle : (b : Block) → is_message b ≡ true → is_idle_block b ≡ false
 message_no_idle b h = no_idle b.sync b.bytes h
 
 pub gap_no_start : (b : Block) → IdleOrMessage b → is_start_block b ≡ false

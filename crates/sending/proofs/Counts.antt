@@ -4,15 +4,15 @@ use Rattle.port.specs.Model.{Lists}
 use Rattle.schedule.specs.Cycle.{item_at, is_frame, frames_before, next_position, round_items}
 use Rattle.schedule.proofs.Counts.{comes_again, frame_even, frame_odd, frames_more, frames_same}
 use Rattle.schedule.proofs.Items.{view}
-use Rattle.sending.specs.Frames.{next_frame}
-use Rattle.sending.specs.Sender.{Made, State, fresh, frame_sent, item_sent}
+use Rattle.numbers.specs.Walk.{next_frame_number}
+use Rattle.sending.specs.Sender.{Made, State, SendResult, new_state, frame_result, item_result}
 use Rattle.sending.proofs.Steps.{Gapped, Kept}
 
 pub record Counted (s : State) (n : ℕ) : Type 0 where
   pub position : s.position ≡ n % round_items
   pub number : s.number ≡ frames_before n % 480
 
-pub counted_none : Counted fresh 0
+pub counted_none : Counted new_state 0
 counted_none = record { position = refl; number = refl }
 
 -- the item that is due is item n of the schedule
@@ -22,11 +22,11 @@ due_item s n h = ap item_at h.position ∙ comes_again n
 next_of : (p n : ℕ) → p ≡ n % round_items → next_position p ≡ (n + 1) % round_items
 next_of p n h = omega arith
 
-number_of : (p x : ℕ) → p ≡ x % 480 → next_frame p ≡ (x + 1) % 480
+number_of : (p x : ℕ) → p ≡ x % 480 → next_frame_number p ≡ (x + 1) % 480
 number_of p x h = omega arith
 
-pub counted_frame : (m : Made) (s : State) (w : Lists) (n : ℕ) → Counted s n → is_frame (item_at s.position) ≡ true → Counted (frame_sent m s w).state (n + 1)
-unfolding frame_sent
+pub counted_frame : (m : Made) (s : State) (w : Lists) (n : ℕ) → Counted s n → is_frame (item_at s.position) ≡ true → Counted (frame_result m s w).state (n + 1)
+unfolding frame_result
 counted_frame m s w n h t = record {
   position = next_of s.position n h.position;
   number =
@@ -34,7 +34,7 @@ counted_frame m s w n h t = record {
       number_of s.number (frames_before n) h.number ∙ ap (λ x. x % 480) (sym (frames_more n e));
 }
 
-pub counted_gap : (s : State) (w : Lists) (n : ℕ) (r : Rattle.sending.specs.Sender.Sent) → Counted s n → is_frame (item_at s.position) ≡ false → Gapped s w r → Counted r.state (n + 1)
+pub counted_gap : (s : State) (w : Lists) (n : ℕ) (r : SendResult) → Counted s n → is_frame (item_at s.position) ≡ false → Gapped s w r → Counted r.state (n + 1)
 counted_gap s w n r h t g =
     let o : n % 65 % 2 ≡ 1 = frame_odd n (ap is_frame (sym (due_item s n h)) ∙ t) in
     record {

@@ -11,12 +11,12 @@ use Rattle.message.specs.declared.Kind.{Kind}
 use Rattle.schedule.specs.declared.Item.{Item}
 use Rattle.schedule.specs.declared.Item.TheVariants.{Frame as FrameItem, Idle, Basic, Protection, Verification, ClientSignal, Delay, Spare}
 use Rattle.schedule.specs.Cycle.{item_at, is_frame}
-use Rattle.sending.specs.Blocks.{is_idle}
-use Rattle.sending.specs.Messages.{Sort, delays, protections, same_sort, Message, message_of, Waiting, nothing_waits, waits, next_block, one_gone}
-use Rattle.sending.specs.Sender.{Made, State, fresh, gap_sent, own_sent, item_sent, sent_by, next_frame_of, waiting_of, with_waiting, with_message, accepted}
-use Rattle.sending.specs.Life.{Life, LineItem, frame, gap, made, followed, send, leave, state_of, begun_by, items}
-use Rattle.sending.specs.MessageLaws.{opportunity_item, is_opportunity, first_start, BlockAt, in_a_row, found_at, found, Left, left_now, messages_left, sent_whole, MessagesOnTime, MessagesSent}
-use Rattle.sending.proofs.Codes.{IsSound, message_of_sound, idle_idle, message_no_idle}
+use Rattle.sending.specs.Blocks.{is_idle_block}
+use Rattle.sending.specs.Messages.{Sort, delays, protections, same_sort, Sendable, sendable_of, Waiting, nothing_waits, waits, next_block, with_one_gone}
+use Rattle.sending.specs.Sender.{Made, State, new_state, gap_result, own_result, item_result, send_result_by, frame_due, waiting_of, with_waiting, state_with, accepted_message}
+use Rattle.sending.specs.Life.{Life, LineItem, frame, gap, made, followed, send, leave, state_of, items_begun_by, items}
+use Rattle.sending.specs.MessageLaws.{opportunity_item, is_opportunity, first_start, BlockAt, in_a_row, found_at_item, found_on_line, Left, message_left, messages_left, whole_messages, MessagesOnTime, MessagesSent}
+use Rattle.sending.proofs.Codes.{IsSound, sendable_sound, idle_idle, message_no_idle}
 use Rattle.sending.proofs.Steps.{Begins, a_frame, a_gap, begins}
 use Rattle.sending.proofs.Counts.{Counted, due_item}
 use Rattle.sending.proofs.Gaps.{SoundOf, Sound, due, goes, moved, waiting_after, next_message, accepted_is}
@@ -24,15 +24,15 @@ use Rattle.sending.proofs.Places.{Standing, standing, frame_item}
 use Rattle.sending.proofs.Opportunities.{next, next_first, next_kept, next_here, next_more, next_to_come, rising}
 
 -- ---- lists of blocks at items
-found_push : (q : Sort) (i : ℕ) (xs : List LineItem) (x : LineItem) → found q i (xs ++ (x ∷ [])) ≡ found q i xs ++ found_at q (i + length xs) x
-unfolding found
-found_push q i [] x = append-nil (found_at q i x) ∙ ap (λ k. found_at q k x) (let z : i ≡ i + 0 = omega arith in z)
+found_push : (q : Sort) (i : ℕ) (xs : List LineItem) (x : LineItem) → found_on_line q i (xs ++ (x ∷ [])) ≡ found_on_line q i xs ++ found_at_item q (i + length xs) x
+unfolding found_on_line
+found_push q i [] x = append-nil (found_at_item q i x) ∙ ap (λ k. found_at_item q k x) (let z : i ≡ i + 0 = omega arith in z)
 found_push q i (y ∷ xs) x =
-    ap (λ l. found_at q i y ++ l) (found_push q (i + 1) xs x ∙ ap (λ k. found q (i + 1) xs ++ found_at q k x) (let z : (i + 1) + length xs ≡ i + suc (length xs) = omega arith in z))
-    ∙ sym (append_assoc (found_at q i y) (found q (i + 1) xs) (found_at q (i + suc (length xs)) x))
+    ap (λ l. found_at_item q i y ++ l) (found_push q (i + 1) xs x ∙ ap (λ k. found_on_line q (i + 1) xs ++ found_at_item q k x) (let z : (i + 1) + length xs ≡ i + suc (length xs) = omega arith in z))
+    ∙ sym (append_assoc (found_at_item q i y) (found_on_line q (i + 1) xs) (found_at_item q (i + suc (length xs)) x))
 
-found_grown : (q : Sort) (xs : List LineItem) (x : LineItem) → found q 0 (xs ++ (x ∷ [])) ≡ found q 0 xs ++ found_at q (length xs) x
-found_grown q xs x = found_push q 0 xs x ∙ ap (λ k. found q 0 xs ++ found_at q k x) (let z : 0 + length xs ≡ length xs = omega arith in z)
+found_grown : (q : Sort) (xs : List LineItem) (x : LineItem) → found_on_line q 0 (xs ++ (x ∷ [])) ≡ found_on_line q 0 xs ++ found_at_item q (length xs) x
+found_grown q xs x = found_push q 0 xs x ∙ ap (λ k. found_on_line q 0 xs ++ found_at_item q k x) (let z : 0 + length xs ≡ length xs = omega arith in z)
 
 row_push : (q : Sort) (k : ℕ) (bs : List Block) (b : Block) → in_a_row q k (bs ++ (b ∷ [])) ≡ in_a_row q k bs ++ (record { item = opportunity_item q (k + length bs); block = b } ∷ [])
 unfolding in_a_row
@@ -59,7 +59,7 @@ unfolding in_a_row
 row_to_come q n k [] h = tt
 row_to_come q n k (b ∷ bs) h = (h, row_to_come q n (k + 1) bs (let r = rising q k in omega arith))
 
-whole_push : (q : Sort) (xs : List Left) (x : Left) → sent_whole q (xs ++ (x ∷ [])) ≡ sent_whole q xs ++ in_a_row q (first_start q x.after) x.blocks
+whole_push : (q : Sort) (xs : List Left) (x : Left) → whole_messages q (xs ++ (x ∷ [])) ≡ whole_messages q xs ++ in_a_row q (first_start q x.after) x.blocks
 whole_push q xs x = sym (flat_map_more (λ (y : Left). in_a_row q (first_start q y.after) y.blocks) [] xs x)
 
 -- one block more of a row
@@ -89,13 +89,13 @@ goes_there protections ClientSignal g e = e
 goes_there protections (Delay j) g e = e
 goes_there protections Spare g e = e
 
-block_by : (s : State) (w : Lists) (t : Bool) (b : Block) (d e : Waiting) → (cond t (gap_sent s w b d e) (own_sent s w idle_block)).block ≡ cond t b idle_block
+block_by : (s : State) (w : Lists) (t : Bool) (b : Block) (d e : Waiting) → (cond t (gap_result s w b d e) (own_result s w idle_block)).block ≡ cond t b idle_block
 block_by s w true b d e = refl
 block_by s w false b d e = refl
 
-opportunity_block : (q : Sort) (m : Made) (s : State) (w : Lists) (x : Item) → is_opportunity q x ≡ true → (item_sent m s w x).block ≡ cond (goes q x (waiting_of s q)) (next_block (waiting_of s q)) idle_block
-unfolding item_sent
-opportunity_block delays m s w (Delay j) e = block_by s w _ (next_block s.delay) (one_gone s.delay) s.protection
+opportunity_block : (q : Sort) (m : Made) (s : State) (w : Lists) (x : Item) → is_opportunity q x ≡ true → (item_result m s w x).block ≡ cond (goes q x (waiting_of s q)) (next_block (waiting_of s q)) idle_block
+unfolding item_result
+opportunity_block delays m s w (Delay j) e = block_by s w _ (next_block s.delay) (with_one_gone s.delay) s.protection
 opportunity_block delays m s w FrameItem e = absurd (both_ways false refl e)
 opportunity_block delays m s w Idle e = absurd (both_ways false refl e)
 opportunity_block delays m s w (Basic mark) e = absurd (both_ways false refl e)
@@ -103,7 +103,7 @@ opportunity_block delays m s w Protection e = absurd (both_ways false refl e)
 opportunity_block delays m s w (Verification j) e = absurd (both_ways false refl e)
 opportunity_block delays m s w ClientSignal e = absurd (both_ways false refl e)
 opportunity_block delays m s w Spare e = absurd (both_ways false refl e)
-opportunity_block protections m s w Protection e = block_by s w _ (next_block s.protection) s.delay (one_gone s.protection)
+opportunity_block protections m s w Protection e = block_by s w _ (next_block s.protection) s.delay (with_one_gone s.protection)
 opportunity_block protections m s w FrameItem e = absurd (both_ways false refl e)
 opportunity_block protections m s w Idle e = absurd (both_ways false refl e)
 opportunity_block protections m s w (Basic mark) e = absurd (both_ways false refl e)
@@ -117,25 +117,25 @@ abbrev now : ℕ → Waiting → Bool → List BlockAt
 now n d t = cond t (record { item = n; block = next_block d } ∷ []) []
 
 module _ (q : Sort) (m : Made) (s : State) (w : Lists) (n : ℕ) (c : Counted s n) (u : Sound s) where
-  found_gap : found_at q n (gap (item_sent m s w (item_at s.position)).block) ≡ now n (waiting_of s q) (goes q (item_at n) (waiting_of s q))
+  found_gap : found_at_item q n (gap (item_result m s w (item_at s.position)).block) ≡ now n (waiting_of s q) (goes q (item_at n) (waiting_of s q))
   found_gap = go (is_opportunity q (item_at n)) (goes q (item_at n) (waiting_of s q)) refl refl
     where
       b : Block
-      b = (item_sent m s w (item_at s.position)).block
+      b = (item_result m s w (item_at s.position)).block
 
       at : is_opportunity q (item_at n) ≡ true → b ≡ cond (goes q (item_at n) (waiting_of s q)) (next_block (waiting_of s q)) idle_block
       at e =
-          ap (λ x. (item_sent m s w x).block) (due_item s n c)
+          ap (λ x. (item_result m s w x).block) (due_item s n c)
           ∙ opportunity_block q m s w (item_at n) e
 
-      go : (t v : Bool) → is_opportunity q (item_at n) ≡ t → goes q (item_at n) (waiting_of s q) ≡ v → cond (is_opportunity q (item_at n) && not (is_idle b)) (record { item = n; block = b } ∷ []) [] ≡ now n (waiting_of s q) (goes q (item_at n) (waiting_of s q))
+      go : (t v : Bool) → is_opportunity q (item_at n) ≡ t → goes q (item_at n) (waiting_of s q) ≡ v → cond (is_opportunity q (item_at n) && not (is_idle_block b)) (record { item = n; block = b } ∷ []) [] ≡ now n (waiting_of s q) (goes q (item_at n) (waiting_of s q))
       go true true e f =
           let d : waits (waiting_of s q) ≡ true = (and_parts (due q (item_at n) (waiting_of s q).gone) (waits (waiting_of s q)) f).1 in
           let p : b ≡ next_block (waiting_of s q) = at e ∙ cond-true _ _ _ f in
-          let i : is_idle b ≡ false = ap is_idle p ∙ message_no_idle (next_block (waiting_of s q)) (next_message q (waiting_of s q) (u q) d) in
+          let i : is_idle_block b ≡ false = ap is_idle_block p ∙ message_no_idle (next_block (waiting_of s q)) (next_message q (waiting_of s q) (u q) d) in
           rw (e, i, f) (ap (λ x. record { item = n; block = x } ∷ []) p)
       go true false e f =
-          let i : is_idle b ≡ true = ap is_idle (at e ∙ cond-false _ _ _ f) ∙ idle_idle in
+          let i : is_idle_block b ≡ true = ap is_idle_block (at e ∙ cond-false _ _ _ f) ∙ idle_idle in
           rw (e, i, f) refl
       go false true e f =
           absurd (both_ways (is_opportunity q (item_at n)) e (goes_there q (item_at n) (waiting_of s q).gone (and_parts (due q (item_at n) (waiting_of s q).gone) (waits (waiting_of s q)) f).0))
@@ -146,7 +146,7 @@ pub record Delivering (q : Sort) (d : Waiting) (n : ℕ) (line : List BlockAt) (
   pub done : List Left
   pub last : Left
   pub lefts_are : lefts ≡ done ++ cond (waits d) (last ∷ []) []
-  pub line_is : line ≡ sent_whole q done ++ cond (waits d) (in_a_row q (first_start q last.after) (take d.gone last.blocks)) []
+  pub line_is : line ≡ whole_messages q done ++ cond (waits d) (in_a_row q (first_start q last.after) (take d.gone last.blocks)) []
   pub same : waits d ≡ true → last.blocks ≡ d.blocks
   pub next_is : waits d ≡ true → next q d.gone n ≡ first_start q last.after + d.gone
 
@@ -171,56 +171,56 @@ module _ (q : Sort) (d : Waiting) (n : ℕ) (line : List BlockAt) (lefts : List 
     long : d.gone < length h.last.blocks
     long = omega (arith, gone_low d e, ap (λ (l : List Block). length l) (h.same e))
 
-    grown : line ++ (record { item = n; block = next_block d } ∷ []) ≡ sent_whole q h.done ++ in_a_row q (first_start q h.last.after) (take (d.gone + 1) h.last.blocks)
+    grown : line ++ (record { item = n; block = next_block d } ∷ []) ≡ whole_messages q h.done ++ in_a_row q (first_start q h.last.after) (take (d.gone + 1) h.last.blocks)
     grown =
-        ap (λ l. l ++ (record { item = n; block = next_block d } ∷ [])) (h.line_is ∙ ap (λ l. sent_whole q h.done ++ l) (cond-true (waits d) _ _ e))
-        ∙ append_assoc (sent_whole q h.done) (in_a_row q (first_start q h.last.after) (take d.gone h.last.blocks)) (record { item = n; block = next_block d } ∷ [])
-        ∙ ap (λ (l : List Block). sent_whole q h.done ++ (in_a_row q (first_start q h.last.after) (take d.gone h.last.blocks) ++ (record { item = n; block = get_or l d.gone idle_block } ∷ []))) (sym (h.same e))
-        ∙ ap (λ l. sent_whole q h.done ++ l) (row_grown q (first_start q h.last.after) d.gone n h.last.blocks long here)
+        ap (λ l. l ++ (record { item = n; block = next_block d } ∷ [])) (h.line_is ∙ ap (λ l. whole_messages q h.done ++ l) (cond-true (waits d) _ _ e))
+        ∙ append_assoc (whole_messages q h.done) (in_a_row q (first_start q h.last.after) (take d.gone h.last.blocks)) (record { item = n; block = next_block d } ∷ [])
+        ∙ ap (λ (l : List Block). whole_messages q h.done ++ (in_a_row q (first_start q h.last.after) (take d.gone h.last.blocks) ++ (record { item = n; block = get_or l d.gone idle_block } ∷ []))) (sym (h.same e))
+        ∙ ap (λ l. whole_messages q h.done ++ l) (row_grown q (first_start q h.last.after) d.gone n h.last.blocks long here)
 
     lefts_with : lefts ≡ h.done ++ (h.last ∷ [])
     lefts_with = h.lefts_are ∙ ap (λ l. h.done ++ l) (cond-true (waits d) _ _ e)
 
-    go_on : waits (one_gone d) ≡ true → Delivering q (one_gone d) (n + 1) (line ++ (record { item = n; block = next_block d } ∷ [])) lefts
+    go_on : waits (with_one_gone d) ≡ true → Delivering q (with_one_gone d) (n + 1) (line ++ (record { item = n; block = next_block d } ∷ [])) lefts
     go_on f = record {
       done = h.done;
       last = h.last;
-      lefts_are = lefts_with ∙ ap (λ l. h.done ++ l) (sym (cond-true (waits (one_gone d)) _ _ f));
-      line_is = grown ∙ ap (λ l. sent_whole q h.done ++ l) (sym (cond-true (waits (one_gone d)) _ _ f));
+      lefts_are = lefts_with ∙ ap (λ l. h.done ++ l) (sym (cond-true (waits (with_one_gone d)) _ _ f));
+      line_is = grown ∙ ap (λ l. whole_messages q h.done ++ l) (sym (cond-true (waits (with_one_gone d)) _ _ f));
       same = λ x. h.same e;
       next_is = λ x.
-          let k : next q (d.gone + 1) (n + 1) ≡ next q d.gone n + 1 = next_more q d.gone n (omega (arith, gone_low (one_gone d) f, u.few)) t in
+          let k : next q (d.gone + 1) (n + 1) ≡ next q d.gone n + 1 = next_more q d.gone n (omega (arith, gone_low (with_one_gone d) f, u.few)) t in
           omega (arith, k, h.next_is e);
     }
 
-    ends : waits (one_gone d) ≡ false → Delivering q (one_gone d) (n + 1) (line ++ (record { item = n; block = next_block d } ∷ [])) lefts
+    ends : waits (with_one_gone d) ≡ false → Delivering q (with_one_gone d) (n + 1) (line ++ (record { item = n; block = next_block d } ∷ [])) lefts
     ends f =
         let all : length h.last.blocks ≤ d.gone + 1 = omega (arith, ltb-false (d.gone + 1) (length d.blocks) f, ap (λ (l : List Block). length l) (h.same e)) in
         record {
           done = h.done ++ (h.last ∷ []);
           last = h.last;
-          lefts_are = lefts_with ∙ sym (append-nil (h.done ++ (h.last ∷ []))) ∙ ap (λ l. (h.done ++ (h.last ∷ [])) ++ l) (sym (cond-false (waits (one_gone d)) _ _ f));
+          lefts_are = lefts_with ∙ sym (append-nil (h.done ++ (h.last ∷ []))) ∙ ap (λ l. (h.done ++ (h.last ∷ [])) ++ l) (sym (cond-false (waits (with_one_gone d)) _ _ f));
           line_is =
               grown
-              ∙ ap (λ l. sent_whole q h.done ++ in_a_row q (first_start q h.last.after) l) (take_all (d.gone + 1) h.last.blocks all)
+              ∙ ap (λ l. whole_messages q h.done ++ in_a_row q (first_start q h.last.after) l) (take_all (d.gone + 1) h.last.blocks all)
               ∙ sym (whole_push q h.done h.last)
-              ∙ sym (append-nil (sent_whole q (h.done ++ (h.last ∷ []))))
-              ∙ ap (λ l. sent_whole q (h.done ++ (h.last ∷ [])) ++ l) (sym (cond-false (waits (one_gone d)) _ _ f));
-          same = λ x. absurd (both_ways (waits (one_gone d)) f x);
-          next_is = λ x. absurd (both_ways (waits (one_gone d)) f x);
+              ∙ sym (append-nil (whole_messages q (h.done ++ (h.last ∷ []))))
+              ∙ ap (λ l. whole_messages q (h.done ++ (h.last ∷ [])) ++ l) (sym (cond-false (waits (with_one_gone d)) _ _ f));
+          same = λ x. absurd (both_ways (waits (with_one_gone d)) f x);
+          next_is = λ x. absurd (both_ways (waits (with_one_gone d)) f x);
         }
 
-    advance : Delivering q (one_gone d) (n + 1) (line ++ (record { item = n; block = next_block d } ∷ [])) lefts
-    advance = go (waits (one_gone d)) refl
+    advance : Delivering q (with_one_gone d) (n + 1) (line ++ (record { item = n; block = next_block d } ∷ [])) lefts
+    advance = go (waits (with_one_gone d)) refl
       where
-        go : (b : Bool) → waits (one_gone d) ≡ b → Delivering q (one_gone d) (n + 1) (line ++ (record { item = n; block = next_block d } ∷ [])) lefts
+        go : (b : Bool) → waits (with_one_gone d) ≡ b → Delivering q (with_one_gone d) (n + 1) (line ++ (record { item = n; block = next_block d } ∷ [])) lefts
         go true f = go_on f
         go false f = ends f
 
   pub item_step : Delivering q (moved q (item_at n) d) (n + 1) (line ++ now n d (goes q (item_at n) d)) lefts
   item_step = go (due q (item_at n) d.gone) (waits d) refl refl
     where
-      go : (t e : Bool) → due q (item_at n) d.gone ≡ t → waits d ≡ e → Delivering q (cond (due q (item_at n) d.gone && waits d) (one_gone d) d) (n + 1) (line ++ now n d (due q (item_at n) d.gone && waits d)) lefts
+      go : (t e : Bool) → due q (item_at n) d.gone ≡ t → waits d ≡ e → Delivering q (cond (due q (item_at n) d.gone && waits d) (with_one_gone d) d) (n + 1) (line ++ now n d (due q (item_at n) d.gone && waits d)) lefts
       go true true t e = rw (t, e) (advance e t)
       go true false t e = rw (t, e) (still (λ x. absurd (both_ways (waits d) e x)))
       go false e t f = rw t (still (λ x. t))
@@ -234,34 +234,34 @@ waiting_more : (s : State) (rest : List Block) (q : Sort) → waiting_of (record
 waiting_more s rest delays = refl
 waiting_more s rest protections = refl
 
-module _ (q : Sort) (m : Made) (s : State) (w : Lists) (is : List LineItem) (lefts : List Left) (st : Standing m s is) (h : Delivering q (waiting_of s q) (length is) (found q 0 is) lefts) where
+module _ (q : Sort) (m : Made) (s : State) (w : Lists) (is : List LineItem) (lefts : List Left) (st : Standing m s is) (h : Delivering q (waiting_of s q) (length is) (found_on_line q 0 is) lefts) where
   After : LineItem → Type 0
-  After x = Delivering q (waiting_of (item_sent m s w (item_at s.position)).state q) (length (is ++ (x ∷ []))) (found q 0 (is ++ (x ∷ []))) lefts
+  After x = Delivering q (waiting_of (item_result m s w (item_at s.position)).state q) (length (is ++ (x ∷ []))) (found_on_line q 0 (is ++ (x ∷ []))) lefts
 
-  item_after : (x : LineItem) → found_at q (length is) x ≡ now (length is) (waiting_of s q) (goes q (item_at (length is)) (waiting_of s q)) → After x
+  item_after : (x : LineItem) → found_at_item q (length is) x ≡ now (length is) (waiting_of s q) (goes q (item_at (length is)) (waiting_of s q)) → After x
   unfolding After
   item_after x e =
       rw (length_push is x, found_grown q is x, e, waiting_after m s w (item_at s.position) q, due_item s (length is) st.counted)
-      (item_step q (waiting_of s q) (length is) (found q 0 is) lefts (st.sound q) h)
+      (item_step q (waiting_of s q) (length is) (found_on_line q 0 is) lefts (st.sound q) h)
 
   no_frame_goes : is_frame (item_at s.position) ≡ true → goes q (item_at (length is)) (waiting_of s q) ≡ false
   no_frame_goes t = ap (λ x. goes q x (waiting_of s q)) (sym (due_item s (length is) st.counted) ∙ frame_item (item_at s.position) t) ∙ frame_goes q (waiting_of s q)
 
-  begin_step : Begins m s w (item_at s.position) → Delivering q (waiting_of (sent_by m s w []).state q) (length (is ++ begun_by m s w [])) (found q 0 (is ++ begun_by m s w [])) lefts
+  begin_step : Begins m s w (item_at s.position) → Delivering q (waiting_of (send_result_by m s w []).state q) (length (is ++ items_begun_by m s w [])) (found_on_line q 0 (is ++ items_begun_by m s w [])) lefts
   unfolding After
-  begin_step (a_frame t g) = rw t (item_after (frame (next_frame_of m s w)) (ap (now (length is) (waiting_of s q)) (sym (no_frame_goes t))))
-  begin_step (a_gap t g) = rw t (item_after (gap (item_sent m s w (item_at s.position)).block) (found_gap q m s w (length is) st.counted st.sound))
+  begin_step (a_frame t g) = rw t (item_after (frame (frame_due m s w)) (ap (now (length is) (waiting_of s q)) (sym (no_frame_goes t))))
+  begin_step (a_gap t g) = rw t (item_after (gap (item_result m s w (item_at s.position)).block) (found_gap q m s w (length is) st.counted st.sound))
 
-  send_step : (rest : List Block) → Delivering q (waiting_of (sent_by m s w rest).state q) (length (is ++ begun_by m s w rest)) (found q 0 (is ++ begun_by m s w rest)) lefts
+  send_step : (rest : List Block) → Delivering q (waiting_of (send_result_by m s w rest).state q) (length (is ++ items_begun_by m s w rest)) (found_on_line q 0 (is ++ items_begun_by m s w rest)) lefts
   send_step [] = begin_step (begins m s w (item_at s.position))
   send_step (b ∷ bs) = rw (append-nil is, waiting_more s bs q) h
 
 -- a leaving
-new_waits : (x : Message) → IsSound x → waits (record { blocks = x.blocks; gone = 0 }) ≡ true
+new_waits : (x : Sendable) → IsSound x → waits (record { blocks = x.blocks; gone = 0 }) ≡ true
 new_waits x h = lt-ltb 0 (length x.blocks) h.some
 
 module _ (q : Sort) (d : Waiting) (n : ℕ) (line : List BlockAt) (lefts : List Left) (h : Delivering q d n line lefts) where
-  left_new : (x : Message) → IsSound x → waits d ≡ false → Delivering q (record { blocks = x.blocks; gone = 0 }) n line (lefts ++ (record { after = n; blocks = x.blocks } ∷ []))
+  left_new : (x : Sendable) → IsSound x → waits d ≡ false → Delivering q (record { blocks = x.blocks; gone = 0 }) n line (lefts ++ (record { after = n; blocks = x.blocks } ∷ []))
   left_new x k off =
       let y : Left = record { after = n; blocks = x.blocks } in
       record {
@@ -272,7 +272,7 @@ module _ (q : Sort) (d : Waiting) (n : ℕ) (line : List BlockAt) (lefts : List 
             ∙ ap (λ l. h.done ++ l) (sym (cond-true (waits (record { blocks = x.blocks; gone = 0 })) _ _ (new_waits x k)));
         line_is =
             h.line_is
-            ∙ ap (λ l. sent_whole q h.done ++ l) (cond-false (waits d) _ _ off ∙ sym (row_none q (first_start q n)) ∙ sym (cond-true (waits (record { blocks = x.blocks; gone = 0 })) _ _ (new_waits x k)));
+            ∙ ap (λ l. whole_messages q h.done ++ l) (cond-false (waits d) _ _ off ∙ sym (row_none q (first_start q n)) ∙ sym (cond-true (waits (record { blocks = x.blocks; gone = 0 })) _ _ (new_waits x k)));
         same = λ e. refl;
         next_is = λ e. next_first q n ∙ (let z : first_start q n ≡ first_start q n + 0 = omega arith in z);
       }
@@ -280,7 +280,7 @@ module _ (q : Sort) (d : Waiting) (n : ℕ) (line : List BlockAt) (lefts : List 
   left_same : Delivering q d n line (lefts ++ [])
   left_same = rw (append-nil lefts) h
 
-not_waiting : (s : State) (o : Option Message) (x : Message) → accepted s o ≡ Some x → waits (waiting_of s x.sort) ≡ false
+not_waiting : (s : State) (o : Option Sendable) (x : Sendable) → accepted_message s o ≡ Some x → waits (waiting_of s x.sort) ≡ false
 not_waiting s None x e = absurd (cc)
 not_waiting s (Some y) x e = go (waits (waiting_of s y.sort)) refl
   where
@@ -288,10 +288,10 @@ not_waiting s (Some y) x e = go (waits (waiting_of s y.sort)) refl
     go true p = let f = rw p at e in absurd (cc)
     go false p =
         let f = rw p at e in
-        let z : ◌≡◌ {A = Message} y x = cc in
-        ap (λ (m : Message). waits (waiting_of s m.sort)) (sym z) ∙ p
+        let z : ◌≡◌ {A = Sendable} y x = cc in
+        ap (λ (m : Sendable). waits (waiting_of s m.sort)) (sym z) ∙ p
 
-left_by_sort : (q r : Sort) (s : State) (n : ℕ) (line : List BlockAt) (lefts : List Left) → Delivering q (waiting_of s q) n line lefts → (x : Message) → IsSound x → waits (waiting_of s r) ≡ false
+left_by_sort : (q r : Sort) (s : State) (n : ℕ) (line : List BlockAt) (lefts : List Left) → Delivering q (waiting_of s q) n line lefts → (x : Sendable) → IsSound x → waits (waiting_of s r) ≡ false
     → Delivering q (waiting_of (with_waiting s r (record { blocks = x.blocks; gone = 0 })) q) n line (lefts ++ cond (same_sort q r) (record { after = n; blocks = x.blocks } ∷ []) [])
 left_by_sort delays delays s n line lefts h x k off = left_new delays s.delay n line lefts h x k off
 left_by_sort delays protections s n line lefts h x k off = left_same delays s.delay n line lefts h
@@ -299,22 +299,22 @@ left_by_sort protections delays s n line lefts h x k off = left_same protections
 left_by_sort protections protections s n line lefts h x k off = left_new protections s.protection n line lefts h x k off
 
 module _ (q : Sort) (s : State) (n : ℕ) (line : List BlockAt) (lefts : List Left) (h : Delivering q (waiting_of s q) n line lefts) where
-  leave_some : (x : Message) → IsSound x → waits (waiting_of s x.sort) ≡ false → Delivering q (waiting_of (with_message s (Some x)) q) n line (lefts ++ left_now q n (Some x))
+  leave_some : (x : Sendable) → IsSound x → waits (waiting_of s x.sort) ≡ false → Delivering q (waiting_of (state_with s (Some x)) q) n line (lefts ++ message_left q n (Some x))
   leave_some x k off = left_by_sort q x.sort s n line lefts h x k off
 
-  leave_step : (k : Option Kind) (vs : List ℕ) → Delivering q (waiting_of (with_message s (accepted s (message_of k vs))) q) n line (lefts ++ left_now q n (accepted s (message_of k vs)))
-  leave_step k vs = go (accepted s (message_of k vs)) refl
+  leave_step : (k : Option Kind) (vs : List ℕ) → Delivering q (waiting_of (state_with s (accepted_message s (sendable_of k vs))) q) n line (lefts ++ message_left q n (accepted_message s (sendable_of k vs)))
+  leave_step k vs = go (accepted_message s (sendable_of k vs)) refl
     where
-      go : (o : Option Message) → accepted s (message_of k vs) ≡ o → Delivering q (waiting_of (with_message s o) q) n line (lefts ++ left_now q n o)
+      go : (o : Option Sendable) → accepted_message s (sendable_of k vs) ≡ o → Delivering q (waiting_of (state_with s o) q) n line (lefts ++ message_left q n o)
       go None e = left_same q (waiting_of s q) n line lefts h
-      go (Some x) e = leave_some x (message_of_sound k vs x (accepted_is s (message_of k vs) x e)) (not_waiting s (message_of k vs) x e)
+      go (Some x) e = leave_some x (sendable_sound k vs x (accepted_is s (sendable_of k vs) x e)) (not_waiting s (sendable_of k vs) x e)
 
-fresh_waits : (q : Sort) → waiting_of fresh q ≡ nothing_waits
+fresh_waits : (q : Sort) → waiting_of new_state q ≡ nothing_waits
 fresh_waits delays = refl
 fresh_waits protections = refl
 
-pub delivering : (q : Sort) (m : Made) (l : Life) → Delivering q (waiting_of (state_of m l) q) (length (items m l)) (found q 0 (items m l)) (messages_left q m l)
-unfolding state_of items messages_left found
+pub delivering : (q : Sort) (m : Made) (l : Life) → Delivering q (waiting_of (state_of m l) q) (length (items m l)) (found_on_line q 0 (items m l)) (messages_left q m l)
+unfolding state_of items messages_left found_on_line
 delivering q m made = rw (fresh_waits q) (record {
   done = [];
   last = record { after = 0; blocks = [] };
@@ -324,14 +324,14 @@ delivering q m made = rw (fresh_waits q) (record {
   next_is = λ e. absurd (both_ways false refl e);
 })
 delivering q m (followed l (send w)) = rw (append-nil (messages_left q m l)) (send_step q m (state_of m l) w (items m l) (messages_left q m l) (standing m l) (delivering q m l) (state_of m l).rest)
-delivering q m (followed l (leave k vs)) = rw (append-nil (items m l)) (leave_step q (state_of m l) (length (items m l)) (found q 0 (items m l)) (messages_left q m l) (delivering q m l) k vs)
+delivering q m (followed l (leave k vs)) = rw (append-nil (items m l)) (leave_step q (state_of m l) (length (items m l)) (found_on_line q 0 (items m l)) (messages_left q m l) (delivering q m l) k vs)
 
 pub messages_sent : MessagesSent
 messages_sent q m l = let h = delivering q m l in (h.done, (h.last, (h.lefts_are, h.line_is)))
 
 module _ (q : Sort) (d : Waiting) (n : ℕ) (line : List BlockAt) (lefts : List Left) (u : SoundOf q d) (h : Delivering q d n line lefts) where
   abbrev OnTime : Type 0
-  OnTime = (rest : List BlockAt) × ((line ++ rest ≡ sent_whole q lefts) × All (λ (x : BlockAt). n ≤ x.item) rest)
+  OnTime = (rest : List BlockAt) × ((line ++ rest ≡ whole_messages q lefts) × All (λ (x : BlockAt). n ≤ x.item) rest)
 
   on_time : OnTime
   on_time = go (waits d) refl
@@ -342,9 +342,9 @@ module _ (q : Sort) (d : Waiting) (n : ℕ) (line : List BlockAt) (lefts : List 
         (
           append-nil line
               ∙ h.line_is
-              ∙ ap (λ l. sent_whole q h.done ++ l) (cond-false (waits d) _ _ e)
-              ∙ append-nil (sent_whole q h.done)
-              ∙ ap (sent_whole q) (sym (append-nil h.done) ∙ ap (λ l. h.done ++ l) (sym (cond-false (waits d) _ _ e)) ∙ sym h.lefts_are),
+              ∙ ap (λ l. whole_messages q h.done ++ l) (cond-false (waits d) _ _ e)
+              ∙ append-nil (whole_messages q h.done)
+              ∙ ap (whole_messages q) (sym (append-nil h.done) ∙ ap (λ l. h.done ++ l) (sym (cond-false (waits d) _ _ e)) ∙ sym h.lefts_are),
           All-from_recursion (λ (x : BlockAt). n ≤ x.item) [] tt,
         ),
       )
@@ -352,15 +352,15 @@ module _ (q : Sort) (d : Waiting) (n : ℕ) (line : List BlockAt) (lefts : List 
           let k : ℕ = first_start q h.last.after in (
             in_a_row q (first_start q h.last.after + d.gone) (drop d.gone h.last.blocks),
             (
-              ap (λ l. l ++ in_a_row q (first_start q h.last.after + d.gone) (drop d.gone h.last.blocks)) (h.line_is ∙ ap (λ l. sent_whole q h.done ++ l) (cond-true (waits d) _ _ e))
-                  ∙ append_assoc (sent_whole q h.done) (in_a_row q (first_start q h.last.after) (take d.gone h.last.blocks)) (in_a_row q (first_start q h.last.after + d.gone) (drop d.gone h.last.blocks))
-                  ∙ ap (λ l. sent_whole q h.done ++ l) (sym (row_split q (first_start q h.last.after) d.gone h.last.blocks))
+              ap (λ l. l ++ in_a_row q (first_start q h.last.after + d.gone) (drop d.gone h.last.blocks)) (h.line_is ∙ ap (λ l. whole_messages q h.done ++ l) (cond-true (waits d) _ _ e))
+                  ∙ append_assoc (whole_messages q h.done) (in_a_row q (first_start q h.last.after) (take d.gone h.last.blocks)) (in_a_row q (first_start q h.last.after + d.gone) (drop d.gone h.last.blocks))
+                  ∙ ap (λ l. whole_messages q h.done ++ l) (sym (row_split q (first_start q h.last.after) d.gone h.last.blocks))
                   ∙ sym (whole_push q h.done h.last)
-                  ∙ ap (sent_whole q) (ap (λ l. h.done ++ l) (sym (cond-true (waits d) _ _ e)) ∙ sym h.lefts_are),
+                  ∙ ap (whole_messages q) (ap (λ l. h.done ++ l) (sym (cond-true (waits d) _ _ e)) ∙ sym h.lefts_are),
               All-from_recursion (λ (x : BlockAt). n ≤ x.item) _ (row_to_come q n (first_start q h.last.after + d.gone) (drop d.gone h.last.blocks)
                   (subst (λ j. n ≤ opportunity_item q j) (h.next_is e) (next_to_come q d.gone n (omega (arith, gone_low d e, u.few))))),
             ),
           )
 
 pub messages_on_time : MessagesOnTime
-messages_on_time q m l = on_time q (waiting_of (state_of m l) q) (length (items m l)) (found q 0 (items m l)) (messages_left q m l) ((standing m l).sound q) (delivering q m l)
+messages_on_time q m l = on_time q (waiting_of (state_of m l) q) (length (items m l)) (found_on_line q 0 (items m l)) (messages_left q m l) ((standing m l).sound q) (delivering q m l)

@@ -8,10 +8,10 @@ use Rattle.message.specs.declared.Kind.{Kind}
 use Rattle.schedule.specs.declared.Item.{Item}
 use Rattle.schedule.specs.declared.Item.TheVariants.{Frame as FrameItem, Idle, Basic, Protection, Verification, ClientSignal, Delay, Spare}
 use Rattle.schedule.specs.Cycle.{is_frame}
-use Rattle.sending.specs.Messages.{is_message, Sort, delays, protections, Message, message_of, Waiting, nothing_waits, waits, next_block, one_gone}
-use Rattle.sending.specs.Sender.{Made, State, fresh, frame_sent, gap_sent, own_sent, item_sent, waiting_of, with_waiting, with_message, accepted}
+use Rattle.sending.specs.Messages.{is_message, Sort, delays, protections, Sendable, sendable_of, Waiting, nothing_waits, waits, next_block, with_one_gone}
+use Rattle.sending.specs.Sender.{Made, State, new_state, frame_result, gap_result, own_result, item_result, waiting_of, with_waiting, state_with, accepted_message}
 use Rattle.sending.specs.LineLaws.{IdleOrMessage, GapStands}
-use Rattle.sending.proofs.Codes.{all_messages, most_blocks, IsSound, message_of_sound, at_message}
+use Rattle.sending.proofs.Codes.{all_messages, most_blocks, IsSound, sendable_sound, at_message}
 
 -- what waits is made of message blocks, and is not too long
 pub record SoundOf (q : Sort) (d : Waiting) : Type 0 where
@@ -25,7 +25,7 @@ nothing_sound : (q : Sort) → SoundOf q nothing_waits
 nothing_sound delays = record { all = refl; few = omega arith }
 nothing_sound protections = record { all = refl; few = omega arith }
 
-pub sound_none : Sound fresh
+pub sound_none : Sound new_state
 sound_none delays = nothing_sound delays
 sound_none protections = nothing_sound protections
 
@@ -53,10 +53,10 @@ abbrev pub goes : Sort → Item → Waiting → Bool
 goes q x d = due q x d.gone && waits d
 
 abbrev pub moved : Sort → Item → Waiting → Waiting
-moved q x d = cond (goes q x d) (one_gone d) d
+moved q x d = cond (goes q x d) (with_one_gone d) d
 
-pub waiting_after : (m : Made) (s : State) (w : Lists) (x : Item) (q : Sort) → waiting_of (item_sent m s w x).state q ≡ moved q x (waiting_of s q)
-unfolding item_sent frame_sent
+pub waiting_after : (m : Made) (s : State) (w : Lists) (x : Item) (q : Sort) → waiting_of (item_result m s w x).state q ≡ moved q x (waiting_of s q)
+unfolding item_result frame_result
 waiting_after m s w FrameItem delays = refl
 waiting_after m s w FrameItem protections = refl
 waiting_after m s w Idle delays = refl
@@ -65,12 +65,12 @@ waiting_after m s w (Basic mark) delays = refl
 waiting_after m s w (Basic mark) protections = refl
 waiting_after m s w Protection delays = kept (waits s.protection)
   where
-    kept : (t : Bool) → waiting_of (cond t (gap_sent s w (next_block s.protection) s.delay (one_gone s.protection)) (own_sent s w idle_block)).state delays ≡ s.delay
+    kept : (t : Bool) → waiting_of (cond t (gap_result s w (next_block s.protection) s.delay (with_one_gone s.protection)) (own_result s w idle_block)).state delays ≡ s.delay
     kept true = refl
     kept false = refl
 waiting_after m s w Protection protections = gone (waits s.protection)
   where
-    gone : (t : Bool) → waiting_of (cond t (gap_sent s w (next_block s.protection) s.delay (one_gone s.protection)) (own_sent s w idle_block)).state protections ≡ cond t (one_gone s.protection) s.protection
+    gone : (t : Bool) → waiting_of (cond t (gap_result s w (next_block s.protection) s.delay (with_one_gone s.protection)) (own_result s w idle_block)).state protections ≡ cond t (with_one_gone s.protection) s.protection
     gone true = refl
     gone false = refl
 waiting_after m s w (Verification j) delays = refl
@@ -79,22 +79,22 @@ waiting_after m s w ClientSignal delays = refl
 waiting_after m s w ClientSignal protections = refl
 waiting_after m s w (Delay j) delays = gone (eqb j s.delay.gone && waits s.delay)
   where
-    gone : (t : Bool) → waiting_of (cond t (gap_sent s w (next_block s.delay) (one_gone s.delay) s.protection) (own_sent s w idle_block)).state delays ≡ cond t (one_gone s.delay) s.delay
+    gone : (t : Bool) → waiting_of (cond t (gap_result s w (next_block s.delay) (with_one_gone s.delay) s.protection) (own_result s w idle_block)).state delays ≡ cond t (with_one_gone s.delay) s.delay
     gone true = refl
     gone false = refl
 waiting_after m s w (Delay j) protections = kept (eqb j s.delay.gone && waits s.delay)
   where
-    kept : (t : Bool) → waiting_of (cond t (gap_sent s w (next_block s.delay) (one_gone s.delay) s.protection) (own_sent s w idle_block)).state protections ≡ s.protection
+    kept : (t : Bool) → waiting_of (cond t (gap_result s w (next_block s.delay) (with_one_gone s.delay) s.protection) (own_result s w idle_block)).state protections ≡ s.protection
     kept true = refl
     kept false = refl
 waiting_after m s w Spare delays = refl
 waiting_after m s w Spare protections = refl
 
-sound_moved : (q : Sort) (d : Waiting) (t : Bool) → SoundOf q d → SoundOf q (cond t (one_gone d) d)
+sound_moved : (q : Sort) (d : Waiting) (t : Bool) → SoundOf q d → SoundOf q (cond t (with_one_gone d) d)
 sound_moved q d true h = record { all = h.all; few = h.few }
 sound_moved q d false h = h
 
-pub sound_item : (m : Made) (s : State) (w : Lists) (x : Item) → Sound s → Sound (item_sent m s w x).state
+pub sound_item : (m : Made) (s : State) (w : Lists) (x : Item) → Sound s → Sound (item_result m s w x).state
 sound_item m s w x h q = subst (SoundOf q) (sym (waiting_after m s w x q)) (sound_moved q (waiting_of s q) (goes q x (waiting_of s q)) (h q))
 
 pub sound_more : (s : State) (rest : List Block) → Sound s → Sound (record s { rest = rest })
@@ -106,15 +106,15 @@ pub waiting_with : (s : State) (q : Sort) (d : Waiting) → waiting_of (with_wai
 waiting_with s delays d = refl
 waiting_with s protections d = refl
 
-pub accepted_is : (s : State) (o : Option Message) (x : Message) → accepted s o ≡ Some x → o ≡ Some x
+pub accepted_is : (s : State) (o : Option Sendable) (x : Sendable) → accepted_message s o ≡ Some x → o ≡ Some x
 accepted_is s None x e = absurd (cc)
 accepted_is s (Some y) x e = go (waits (waiting_of s y.sort)) e
   where
-    go : (t : Bool) → cond t None (Some y) ≡ Some x → ◌≡◌ {A = Option Message} (Some y) (Some x)
+    go : (t : Bool) → cond t None (Some y) ≡ Some x → ◌≡◌ {A = Option Sendable} (Some y) (Some x)
     go true e = absurd (cc)
     go false e = e
 
-sound_with : (s : State) (x : Message) → IsSound x → Sound s → Sound (with_message s (Some x))
+sound_with : (s : State) (x : Sendable) → IsSound x → Sound s → Sound (state_with s (Some x))
 sound_with s x h k q = go x.sort refl q
   where
     go : (r : Sort) → x.sort ≡ r → (q : Sort) → SoundOf q (waiting_of (with_waiting s r (record { blocks = x.blocks; gone = 0 })) q)
@@ -123,33 +123,33 @@ sound_with s x h k q = go x.sort refl q
     go protections e delays = k delays
     go protections e protections = record { all = h.all; few = omega (arith, h.few, ap most_blocks e) }
 
-pub sound_leave : (s : State) (k : Option Kind) (vs : List ℕ) → Sound s → Sound (with_message s (accepted s (message_of k vs)))
-sound_leave s k vs h = go (accepted s (message_of k vs)) refl
+pub sound_leave : (s : State) (k : Option Kind) (vs : List ℕ) → Sound s → Sound (state_with s (accepted_message s (sendable_of k vs)))
+sound_leave s k vs h = go (accepted_message s (sendable_of k vs)) refl
   where
-    go : (o : Option Message) → accepted s (message_of k vs) ≡ o → Sound (with_message s o)
+    go : (o : Option Sendable) → accepted_message s (sendable_of k vs) ≡ o → Sound (state_with s o)
     go None e = h
-    go (Some x) e = sound_with s x (message_of_sound k vs x (accepted_is s (message_of k vs) x e)) h
+    go (Some x) e = sound_with s x (sendable_sound k vs x (accepted_is s (sendable_of k vs) x e)) h
 
 -- ---- what stands in the gap
 -- the next block of a message that waits
 pub next_message : (q : Sort) (d : Waiting) → SoundOf q d → waits d ≡ true → is_message (next_block d) ≡ true
 next_message q d h e = at_message d.blocks d.gone h.all (ltb-true d.gone (length d.blocks) e)
 
-pub gap_stands : (m : Made) (s : State) (w : Lists) (x : Item) → Sound s → is_frame x ≡ false → GapStands m (item_sent m s w x).block x
-unfolding item_sent
+pub gap_stands : (m : Made) (s : State) (w : Lists) (x : Item) → Sound s → is_frame x ≡ false → GapStands m (item_result m s w x).block x
+unfolding item_result
 gap_stands m s w FrameItem h t = absurd (both_ways true t refl)
 gap_stands m s w Idle h t = refl
 gap_stands m s w (Basic mark) h t = refl
 gap_stands m s w Protection h t = go (waits s.protection) refl
   where
-    go : (u : Bool) → waits s.protection ≡ u → IdleOrMessage (cond u (gap_sent s w (next_block s.protection) s.delay (one_gone s.protection)) (own_sent s w idle_block)).block
+    go : (u : Bool) → waits s.protection ≡ u → IdleOrMessage (cond u (gap_result s w (next_block s.protection) s.delay (with_one_gone s.protection)) (own_result s w idle_block)).block
     go true e = inr (next_message protections s.protection (h protections) e)
     go false e = inl refl
 gap_stands m s w (Verification j) h t = refl
 gap_stands m s w ClientSignal h t = refl
 gap_stands m s w (Delay j) h t = go (eqb j s.delay.gone && waits s.delay) refl
   where
-    go : (u : Bool) → (eqb j s.delay.gone && waits s.delay) ≡ u → IdleOrMessage (cond u (gap_sent s w (next_block s.delay) (one_gone s.delay) s.protection) (own_sent s w idle_block)).block
+    go : (u : Bool) → (eqb j s.delay.gone && waits s.delay) ≡ u → IdleOrMessage (cond u (gap_result s w (next_block s.delay) (with_one_gone s.delay) s.protection) (own_result s w idle_block)).block
     go true e = inr (next_message delays s.delay (h delays) (and_parts (eqb j s.delay.gone) (waits s.delay) e).1)
     go false e = inl refl
 gap_stands m s w Spare h t = refl

@@ -5,23 +5,24 @@ use Rattle.std.proofs.lemmas.Bool.{cond-true, eq-eqb}
 use Rattle.block.specs.declared.Block.{Block}
 use Rattle.port.specs.Model.{Lists}
 use Rattle.calendar.specs.Share.{slot_count}
+use Rattle.sending.specs.Blocks.{without_idles}
 use Rattle.schedule.specs.Cycle.{item_at, is_frame, frames_before}
 use Rattle.schedule.specs.declared.Item.{Item}
 use Rattle.schedule.specs.declared.Item.TheVariants.{Frame as FrameItem, Idle, Basic, Protection, Verification, ClientSignal, Delay, Spare}
 use Rattle.schedule.proofs.Counts.{frames_more, frames_same, frame_even, frame_odd}
 use Rattle.schedule.proofs.Items.{view}
-use Rattle.sending.specs.Messages.{message_of}
-use Rattle.sending.specs.Laid.{pairs_laid, room_for}
-use Rattle.sending.specs.Sender.{Made, State, frame_sent, item_sent, sent_by, next_frame_of, begins_frame_by, accepted}
-use Rattle.sending.specs.Life.{Life, LineItem, frame, gap, made, followed, send, leave, state_of, begun_by, items}
-use Rattle.sending.specs.LineLaws.{Each, Stands, FrameStands, GapStands, ItemsInPlace, NoStart, GapsNeverStart, IdleOrMessage, joined, frame_count, CyclesWhole}
-use Rattle.sending.specs.ClientLaws.{Carries, FramesCarry, given_for, TakesWaiting, GivenLeaves, OthersKeep}
-use Rattle.sending.proofs.Frames.{length-frame_blocks}
+use Rattle.sending.specs.Messages.{sendable_of}
+use Rattle.sending.specs.Laid.{pairs_for, room_for}
+use Rattle.sending.specs.Sender.{Made, State, frame_result, item_result, send_result_by, frame_due, frame_begins_by, accepted_message}
+use Rattle.sending.specs.Life.{Life, LineItem, frame, gap, made, followed, send, leave, state_of, items_begun_by, items}
+use Rattle.sending.specs.LineLaws.{Each, Stands, FrameStands, GapStands, ItemsInPlace, NoStart, GapsNeverStart, IdleOrMessage, blocks_of_items, frame_count, CyclesWhole}
+use Rattle.sending.specs.ClientLaws.{FillsSlots, SlotsFilled, Carries, FramesCarry, blocks_given_for, TakesWaiting, GivenLeaves, OthersKeep}
+use Rattle.sending.proofs.Frames.{length-frame_written}
 use Rattle.sending.proofs.Codes.{basic_message, cv_sort, cs_sort, gap_no_start}
 use Rattle.sending.proofs.Steps.{Begins, a_frame, a_gap, begins, message_kept}
 use Rattle.sending.proofs.Counts.{Counted, counted_none, due_item, counted_frame, counted_gap, counted_kept}
 use Rattle.sending.proofs.Gaps.{Sound, sound_none, sound_item, sound_more, sound_leave, gap_stands}
-use Rattle.sending.proofs.Carry.{carried, left_frame}
+use Rattle.sending.proofs.Carry.{fills, fills_empty, without_filled, left_frame}
 
 pub each_push : (P : ℕ → LineItem → Type 0) (i : ℕ) (xs : List LineItem) (x : LineItem) → Each P i xs → P (i + length xs) x → Each P i (xs ++ (x ∷ []))
 unfolding Each
@@ -38,12 +39,12 @@ pub record Standing (m : Made) (s : State) (is : List LineItem) : Type 0 where
   pub counted : Counted s (length is)
   pub sound : Sound s
   pub stands : Each (Stands m) 0 is
-  pub carries : Each (λ i x. Carries m x) 0 is
+  pub fills : Each (λ i x. FillsSlots m x) 0 is
 
-length-pairs_laid : (cal : List ℕ) (w : Lists) → length (pairs_laid cal w) ≡ length cal
-unfolding pairs_laid
-length-pairs_laid [] w = refl
-length-pairs_laid (c ∷ cs) w = ap suc (length-pairs_laid cs _)
+length-pairs_for : (cal : List ℕ) (w : Lists) → length (pairs_for cal w) ≡ length cal
+unfolding pairs_for
+length-pairs_for [] w = refl
+length-pairs_for (c ∷ cs) w = ap suc (length-pairs_for cs _)
 
 pub frame_item : (x : Item) → is_frame x ≡ true → x ≡ FrameItem
 frame_item FrameItem e = refl
@@ -59,61 +60,68 @@ module _ (m : Made) (s : State) (w : Lists) (is : List LineItem) (h : Standing m
   here : (x : LineItem) → Stands m (length is) x → Stands m (0 + length is) x
   here x p = let z : length is ≡ 0 + length is = omega arith in subst (λ k. Stands m k x) z p
 
-  frame_stands : is_frame (item_at s.position) ≡ true → FrameStands m (length is) (next_frame_of m s w)
-  unfolding next_frame_of
+  frame_stands : is_frame (item_at s.position) ≡ true → FrameStands m (length is) (frame_due m s w)
+  unfolding frame_due
   frame_stands t = record {
     item = sym (due_item s (length is) h.counted) ∙ frame_item (item_at s.position) t;
     number = h.counted.number;
     entry = refl;
-    many = length-pairs_laid m.calendar w;
+    many = length-pairs_for m.calendar w;
   }
 
-  frame_carries : Carries m (frame (next_frame_of m s w))
-  unfolding next_frame_of
-  frame_carries = carried m.calendar w
+  frame_fills : FillsSlots m (frame (frame_due m s w))
+  unfolding frame_due
+  frame_fills = (fills m.calendar w, fills_empty m.calendar w)
 
-  begin_step : Begins m s w (item_at s.position) → Standing m (sent_by m s w []).state (is ++ begun_by m s w [])
+  begin_step : Begins m s w (item_at s.position) → Standing m (send_result_by m s w []).state (is ++ items_begun_by m s w [])
   begin_step (a_frame t g) = rw (t, g) (record {
-    counted = rw (length_push is (frame (next_frame_of m s w))) (counted_frame m s w (length is) h.counted t);
+    counted = rw (length_push is (frame (frame_due m s w))) (counted_frame m s w (length is) h.counted t);
     sound = rw (← g) (sound_item m s w (item_at s.position) h.sound);
-    stands = each_push (Stands m) 0 is _ h.stands (here (frame (next_frame_of m s w)) (frame_stands t));
-    carries = each_push (λ i x. Carries m x) 0 is _ h.carries frame_carries;
+    stands = each_push (Stands m) 0 is _ h.stands (here (frame (frame_due m s w)) (frame_stands t));
+    fills = each_push (λ i x. FillsSlots m x) 0 is _ h.fills frame_fills;
   })
   begin_step (a_gap t g) = rw t (record {
-    counted = rw (length_push is (gap (item_sent m s w (item_at s.position)).block)) (counted_gap s w (length is) (item_sent m s w (item_at s.position)) h.counted t g);
+    counted = rw (length_push is (gap (item_result m s w (item_at s.position)).block)) (counted_gap s w (length is) (item_result m s w (item_at s.position)) h.counted t g);
     sound = sound_item m s w (item_at s.position) h.sound;
-    stands = each_push (Stands m) 0 is _ h.stands (here (gap (item_sent m s w (item_at s.position)).block)
-        (subst (GapStands m (item_sent m s w (item_at s.position)).block) (due_item s (length is) h.counted) (gap_stands m s w (item_at s.position) h.sound t)));
-    carries = each_push (λ i x. Carries m x) 0 is _ h.carries tt;
+    stands = each_push (Stands m) 0 is _ h.stands (here (gap (item_result m s w (item_at s.position)).block)
+        (subst (GapStands m (item_result m s w (item_at s.position)).block) (due_item s (length is) h.counted) (gap_stands m s w (item_at s.position) h.sound t)));
+    fills = each_push (λ i x. FillsSlots m x) 0 is _ h.fills tt;
   })
 
-  send_step : (rest : List Block) → Standing m (sent_by m s w rest).state (is ++ begun_by m s w rest)
+  send_step : (rest : List Block) → Standing m (send_result_by m s w rest).state (is ++ items_begun_by m s w rest)
   send_step [] = begin_step (begins m s w (item_at s.position))
   send_step (b ∷ bs) = rw (append-nil is) (record {
     counted = record { position = h.counted.position; number = h.counted.number };
     sound = sound_more s bs h.sound;
     stands = h.stands;
-    carries = h.carries;
+    fills = h.fills;
   })
 
 pub standing : (m : Made) (l : Life) → Standing m (state_of m l) (items m l)
 unfolding state_of items Each
-standing m made = record { counted = counted_none; sound = sound_none; stands = tt; carries = tt }
+standing m made = record { counted = counted_none; sound = sound_none; stands = tt; fills = tt }
 standing m (followed l (send w)) = send_step m (state_of m l) w (items m l) (standing m l) (state_of m l).rest
 standing m (followed l (leave k vs)) =
     let h : Standing m (state_of m l) (items m l) = standing m l in
     rw (append-nil (items m l)) (record {
-      counted = counted_kept (state_of m l) _ (length (items m l)) h.counted (message_kept (state_of m l) (accepted (state_of m l) (message_of k vs)));
+      counted = counted_kept (state_of m l) _ (length (items m l)) h.counted (message_kept (state_of m l) (accepted_message (state_of m l) (sendable_of k vs)));
       sound = sound_leave (state_of m l) k vs h.sound;
       stands = h.stands;
-      carries = h.carries;
+      fills = h.fills;
     })
 
 pub items_in_place : ItemsInPlace
 items_in_place m l = (standing m l).stands
 
+pub slots_filled : SlotsFilled
+slots_filled m l = (standing m l).fills
+
+filled_carries : (m : Made) (i : ℕ) (x : LineItem) → FillsSlots m x → Carries m x
+filled_carries m i (frame f) h = λ k z. ap without_idles (h.0 k z) ∙ without_filled (f.given k) (room_for k m.calendar)
+filled_carries m i (gap b) h = tt
+
 pub frames_carry : FramesCarry
-frames_carry m l = (standing m l).carries
+frames_carry m l = each_map (λ i x. FillsSlots m x) (λ i x. Carries m x) (filled_carries m) 0 (items m l) (standing m l).fills
 
 -- no gap is a start block
 gap_sort : (m : Made) (b : Block) (x : Item) → GapStands m b x → IdleOrMessage b
@@ -139,14 +147,14 @@ gaps_never_start m l = each_map (Stands m) (λ i x. NoStart x) (stands_no_start 
 -- ---- at a send
 module _ (m : Made) (s : State) (w : Lists) (k : ℕ) where
   abbrev Takes : ℕ → List Block → Type 0
-  Takes n rest = (given_for (begun_by m s w rest) k ≡ take n (w k)) × ((sent_by m s w rest).waiting k ≡ drop n (w k))
+  Takes n rest = (blocks_given_for (items_begun_by m s w rest) k ≡ take n (w k)) × ((send_result_by m s w rest).waiting k ≡ drop n (w k))
 
   takes_begun : Begins m s w (item_at s.position) → Takes (Rattle.std.specs.Prelude.if◌then◌else◌ (is_frame (item_at s.position)) (room_for k m.calendar) 0) []
-  unfolding frame_sent next_frame_of
+  unfolding frame_result frame_due
   takes_begun (a_frame t g) = rw (t, g) (append-nil (take (room_for k m.calendar) (w k)), left_frame m.calendar w k)
   takes_begun (a_gap t g) = rw t (refl, ap (λ (l : Lists). l k) g.waiting)
 
-  takes_send : (rest : List Block) → Takes (Rattle.std.specs.Prelude.if◌then◌else◌ (begins_frame_by s rest) (room_for k m.calendar) 0) rest
+  takes_send : (rest : List Block) → Takes (Rattle.std.specs.Prelude.if◌then◌else◌ (frame_begins_by s rest) (room_for k m.calendar) 0) rest
   takes_send [] = takes_begun (begins m s w (item_at s.position))
   takes_send (b ∷ bs) = (refl, refl)
 
@@ -218,12 +226,12 @@ each_take P i zero xs u = tt
 each_take P i (suc n) [] u = tt
 each_take P i (suc n) (x ∷ xs) (p, u) = (p, each_take P (i + 1) n xs u)
 
-pub counted_blocks : (xs : List LineItem) → length (joined xs) ≡ 991 * frame_count xs + length xs
-unfolding frame_count joined
+pub counted_blocks : (xs : List LineItem) → length (blocks_of_items xs) ≡ 991 * frame_count xs + length xs
+unfolding frame_count blocks_of_items
 counted_blocks [] = refl
 counted_blocks (frame f ∷ xs) =
     let h = counted_blocks xs in
-    simp length-append (omega (arith, h, length-frame_blocks f.number f.entry f.pairs))
+    simp length-append (omega (arith, h, length-frame_written f.number f.entry f.pairs))
 counted_blocks (gap b ∷ xs) = omega (arith, counted_blocks xs)
 
 pub cycles_whole : CyclesWhole
@@ -240,7 +248,7 @@ cycles_whole m l c h = (whole, blocks_whole)
         let x = counted_frames m (0 + 65 * c) seg (each_take (Stands m) (0 + 65 * c) 65 (drop (65 * c) (items m l)) (each_drop (Stands m) 0 (65 * c) (items m l) (standing m l).stands)) in
         omega (arith, x, long)
 
-    blocks_whole : length (joined seg) ≡ 32768
+    blocks_whole : length (blocks_of_items seg) ≡ 32768
     blocks_whole =
         let x = counted_blocks seg in
         omega (arith, x, long, whole)

@@ -1,7 +1,7 @@
 //! The laws of every life of a sender: made once, then any calls in any order, refused or not, whatever waits at the inlets.
 
 ghost use Rattle.sending.specs.LineLaws.{SendsItsItems, ItemsInPlace, GapsNeverStart, CyclesWhole, CycleBlocks, RunsLined};
-ghost use Rattle.sending.specs.ClientLaws.{FramesCarry, StretchesCarry, TakesWaiting, GivenLeaves, OthersKeep};
+ghost use Rattle.sending.specs.ClientLaws.{SlotsFilled, FramesCarry, StretchesCarry, TakesWaiting, GivenLeaves, OthersKeep};
 ghost use Rattle.sending.specs.MessageLaws.{MessagesSent, MessagesOnTime, MessagesEnd, FirstStarts};
 
 /// What stands on the line.
@@ -16,6 +16,7 @@ pub fn the_line()
 
 /// What becomes of the clients' blocks.
 pub fn the_clients()
+    ensures slots { SlotsFilled }
     ensures carries { FramesCarry }
     ensures stretches { StretchesCarry }
     ensures waiting { TakesWaiting }
