@@ -19,7 +19,7 @@ use Rattle.message.proofs.ReadBacks.{read_back}
 use Rattle.message.proofs.Pairs.{length_paired}
 use Rattle.message.proofs.Laws.{filled_length}
 use Rattle.sending.specs.Blocks.{is_start_block, is_idle_block}
-use Rattle.sending.specs.Messages.{is_message, cv_block, cs_block, Sort, delays, protections, sort_of, Sendable, sendable_of_kind, sendable_of}
+use Rattle.sending.specs.Messages.{is_message, cv_block, cs_block, Sort, delays, protections, sort_of, MessageToSend, message_of_kind, message_to_send}
 use Rattle.sending.specs.LineLaws.{IdleOrMessage}
 
 abbrev pub all_messages : List Block → Bool
@@ -65,7 +65,7 @@ abbrev pub most_blocks : Sort → ℕ
 most_blocks delays = 13
 most_blocks protections = 2
 
-pub record IsSound (x : Sendable) : Type 0 where
+pub record IsSound (x : MessageToSend) : Type 0 where
   pub all : all_messages x.blocks ≡ true
   pub some : 0 < length x.blocks
   pub few : length x.blocks ≤ most_blocks x.sort
@@ -106,21 +106,21 @@ message_sound k vs q e h = record {
   few = omega (arith, length-message k vs h, few_blocks k q e);
 }
 
-made_by : (k : Kind) (vs : List ℕ) (x : Sendable) → sendable_of_kind k vs ≡ Some x → IsSound x
-unfolding sendable_of_kind
+made_by : (k : Kind) (vs : List ℕ) (x : MessageToSend) → message_of_kind k vs ≡ Some x → IsSound x
+unfolding message_of_kind
 made_by k vs x e = go (lawful k vs) (sort_of k) refl refl
   where
     go : (t : Bool) (o : Option Sort) → lawful k vs ≡ t → sort_of k ≡ o → IsSound x
     go true (Some q) p r =
         let f = rw (p, r) at e in
-        let z : ◌≡◌ {A = Sendable} (record { sort = q; blocks = message_blocks k (filled vs) }) x = cc in
+        let z : ◌≡◌ {A = MessageToSend} (record { sort = q; blocks = message_blocks k (filled vs) }) x = cc in
         subst IsSound z (message_sound k vs q r p)
     go true None p r = let f = rw (p, r) at e in absurd (cc)
     go false o p r = let f = rw p at e in absurd (cc)
 
-pub sendable_sound : (k : Option Kind) (vs : List ℕ) (x : Sendable) → sendable_of k vs ≡ Some x → IsSound x
-sendable_sound None vs x e = absurd (cc)
-sendable_sound (Some k) vs x e = made_by k vs x e
+pub to_send_sound : (k : Option Kind) (vs : List ℕ) (x : MessageToSend) → message_to_send k vs ≡ Some x → IsSound x
+to_send_sound None vs x e = absurd (cc)
+to_send_sound (Some k) vs x e = made_by k vs x e
 
 -- ---- no message is a start or an idle
 option_true : (o : Option MessageBlock) → elim o [ None ↦ false | Some m ↦ true ] ≡ true → (m : MessageBlock) × (o ≡ Some m)

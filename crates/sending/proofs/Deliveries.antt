@@ -12,11 +12,11 @@ use Rattle.schedule.specs.declared.Item.{Item}
 use Rattle.schedule.specs.declared.Item.TheVariants.{Frame as FrameItem, Idle, Basic, Protection, Verification, ClientSignal, Delay, Spare}
 use Rattle.schedule.specs.Cycle.{item_at, is_frame}
 use Rattle.sending.specs.Blocks.{is_idle_block}
-use Rattle.sending.specs.Messages.{Sort, delays, protections, same_sort, Sendable, sendable_of, Waiting, nothing_waits, waits, next_block, with_one_gone}
+use Rattle.sending.specs.Messages.{Sort, delays, protections, same_sort, MessageToSend, message_to_send, Waiting, nothing_waits, waits, next_block, with_one_gone}
 use Rattle.sending.specs.Sender.{Made, State, new_state, gap_result, own_result, item_result, send_result_by, frame_due, waiting_of, with_waiting, state_with, accepted_message}
 use Rattle.sending.specs.Life.{Life, LineItem, frame, gap, made, followed, send, leave, state_of, items_begun_by, items}
 use Rattle.sending.specs.MessageLaws.{opportunity_item, is_opportunity, first_start, BlockAt, in_a_row, found_at_item, found_on_line, Left, message_left, messages_left, whole_messages, MessagesOnTime, MessagesSent}
-use Rattle.sending.proofs.Codes.{IsSound, sendable_sound, idle_idle, message_no_idle}
+use Rattle.sending.proofs.Codes.{IsSound, to_send_sound, idle_idle, message_no_idle}
 use Rattle.sending.proofs.Steps.{Begins, a_frame, a_gap, begins}
 use Rattle.sending.proofs.Counts.{Counted, due_item}
 use Rattle.sending.proofs.Gaps.{SoundOf, Sound, due, goes, moved, waiting_after, next_message, accepted_is}
@@ -257,11 +257,11 @@ module _ (q : Sort) (m : Made) (s : State) (w : Lists) (is : List LineItem) (lef
   send_step (b ∷ bs) = rw (append-nil is, waiting_more s bs q) h
 
 -- a leaving
-new_waits : (x : Sendable) → IsSound x → waits (record { blocks = x.blocks; gone = 0 }) ≡ true
+new_waits : (x : MessageToSend) → IsSound x → waits (record { blocks = x.blocks; gone = 0 }) ≡ true
 new_waits x h = lt-ltb 0 (length x.blocks) h.some
 
 module _ (q : Sort) (d : Waiting) (n : ℕ) (line : List BlockAt) (lefts : List Left) (h : Delivering q d n line lefts) where
-  left_new : (x : Sendable) → IsSound x → waits d ≡ false → Delivering q (record { blocks = x.blocks; gone = 0 }) n line (lefts ++ (record { after = n; blocks = x.blocks } ∷ []))
+  left_new : (x : MessageToSend) → IsSound x → waits d ≡ false → Delivering q (record { blocks = x.blocks; gone = 0 }) n line (lefts ++ (record { after = n; blocks = x.blocks } ∷ []))
   left_new x k off =
       let y : Left = record { after = n; blocks = x.blocks } in
       record {
@@ -280,7 +280,7 @@ module _ (q : Sort) (d : Waiting) (n : ℕ) (line : List BlockAt) (lefts : List 
   left_same : Delivering q d n line (lefts ++ [])
   left_same = rw (append-nil lefts) h
 
-not_waiting : (s : State) (o : Option Sendable) (x : Sendable) → accepted_message s o ≡ Some x → waits (waiting_of s x.sort) ≡ false
+not_waiting : (s : State) (o : Option MessageToSend) (x : MessageToSend) → accepted_message s o ≡ Some x → waits (waiting_of s x.sort) ≡ false
 not_waiting s None x e = absurd (cc)
 not_waiting s (Some y) x e = go (waits (waiting_of s y.sort)) refl
   where
@@ -288,10 +288,10 @@ not_waiting s (Some y) x e = go (waits (waiting_of s y.sort)) refl
     go true p = let f = rw p at e in absurd (cc)
     go false p =
         let f = rw p at e in
-        let z : ◌≡◌ {A = Sendable} y x = cc in
-        ap (λ (m : Sendable). waits (waiting_of s m.sort)) (sym z) ∙ p
+        let z : ◌≡◌ {A = MessageToSend} y x = cc in
+        ap (λ (m : MessageToSend). waits (waiting_of s m.sort)) (sym z) ∙ p
 
-left_by_sort : (q r : Sort) (s : State) (n : ℕ) (line : List BlockAt) (lefts : List Left) → Delivering q (waiting_of s q) n line lefts → (x : Sendable) → IsSound x → waits (waiting_of s r) ≡ false
+left_by_sort : (q r : Sort) (s : State) (n : ℕ) (line : List BlockAt) (lefts : List Left) → Delivering q (waiting_of s q) n line lefts → (x : MessageToSend) → IsSound x → waits (waiting_of s r) ≡ false
     → Delivering q (waiting_of (with_waiting s r (record { blocks = x.blocks; gone = 0 })) q) n line (lefts ++ cond (same_sort q r) (record { after = n; blocks = x.blocks } ∷ []) [])
 left_by_sort delays delays s n line lefts h x k off = left_new delays s.delay n line lefts h x k off
 left_by_sort delays protections s n line lefts h x k off = left_same delays s.delay n line lefts h
@@ -299,15 +299,15 @@ left_by_sort protections delays s n line lefts h x k off = left_same protections
 left_by_sort protections protections s n line lefts h x k off = left_new protections s.protection n line lefts h x k off
 
 module _ (q : Sort) (s : State) (n : ℕ) (line : List BlockAt) (lefts : List Left) (h : Delivering q (waiting_of s q) n line lefts) where
-  leave_some : (x : Sendable) → IsSound x → waits (waiting_of s x.sort) ≡ false → Delivering q (waiting_of (state_with s (Some x)) q) n line (lefts ++ message_left q n (Some x))
+  leave_some : (x : MessageToSend) → IsSound x → waits (waiting_of s x.sort) ≡ false → Delivering q (waiting_of (state_with s (Some x)) q) n line (lefts ++ message_left q n (Some x))
   leave_some x k off = left_by_sort q x.sort s n line lefts h x k off
 
-  leave_step : (k : Option Kind) (vs : List ℕ) → Delivering q (waiting_of (state_with s (accepted_message s (sendable_of k vs))) q) n line (lefts ++ message_left q n (accepted_message s (sendable_of k vs)))
-  leave_step k vs = go (accepted_message s (sendable_of k vs)) refl
+  leave_step : (k : Option Kind) (vs : List ℕ) → Delivering q (waiting_of (state_with s (accepted_message s (message_to_send k vs))) q) n line (lefts ++ message_left q n (accepted_message s (message_to_send k vs)))
+  leave_step k vs = go (accepted_message s (message_to_send k vs)) refl
     where
-      go : (o : Option Sendable) → accepted_message s (sendable_of k vs) ≡ o → Delivering q (waiting_of (state_with s o) q) n line (lefts ++ message_left q n o)
+      go : (o : Option MessageToSend) → accepted_message s (message_to_send k vs) ≡ o → Delivering q (waiting_of (state_with s o) q) n line (lefts ++ message_left q n o)
       go None e = left_same q (waiting_of s q) n line lefts h
-      go (Some x) e = leave_some x (sendable_sound k vs x (accepted_is s (sendable_of k vs) x e)) (not_waiting s (sendable_of k vs) x e)
+      go (Some x) e = leave_some x (to_send_sound k vs x (accepted_is s (message_to_send k vs) x e)) (not_waiting s (message_to_send k vs) x e)
 
 fresh_waits : (q : Sort) → waiting_of new_state q ≡ nothing_waits
 fresh_waits delays = refl

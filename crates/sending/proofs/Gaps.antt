@@ -8,10 +8,10 @@ use Rattle.message.specs.declared.Kind.{Kind}
 use Rattle.schedule.specs.declared.Item.{Item}
 use Rattle.schedule.specs.declared.Item.TheVariants.{Frame as FrameItem, Idle, Basic, Protection, Verification, ClientSignal, Delay, Spare}
 use Rattle.schedule.specs.Cycle.{is_frame}
-use Rattle.sending.specs.Messages.{is_message, Sort, delays, protections, Sendable, sendable_of, Waiting, nothing_waits, waits, next_block, with_one_gone}
+use Rattle.sending.specs.Messages.{is_message, Sort, delays, protections, MessageToSend, message_to_send, Waiting, nothing_waits, waits, next_block, with_one_gone}
 use Rattle.sending.specs.Sender.{Made, State, new_state, frame_result, gap_result, own_result, item_result, waiting_of, with_waiting, state_with, accepted_message}
 use Rattle.sending.specs.LineLaws.{IdleOrMessage, GapStands}
-use Rattle.sending.proofs.Codes.{all_messages, most_blocks, IsSound, sendable_sound, at_message}
+use Rattle.sending.proofs.Codes.{all_messages, most_blocks, IsSound, to_send_sound, at_message}
 
 -- what waits is made of message blocks, and is not too long
 pub record SoundOf (q : Sort) (d : Waiting) : Type 0 where
@@ -106,15 +106,15 @@ pub waiting_with : (s : State) (q : Sort) (d : Waiting) → waiting_of (with_wai
 waiting_with s delays d = refl
 waiting_with s protections d = refl
 
-pub accepted_is : (s : State) (o : Option Sendable) (x : Sendable) → accepted_message s o ≡ Some x → o ≡ Some x
+pub accepted_is : (s : State) (o : Option MessageToSend) (x : MessageToSend) → accepted_message s o ≡ Some x → o ≡ Some x
 accepted_is s None x e = absurd (cc)
 accepted_is s (Some y) x e = go (waits (waiting_of s y.sort)) e
   where
-    go : (t : Bool) → cond t None (Some y) ≡ Some x → ◌≡◌ {A = Option Sendable} (Some y) (Some x)
+    go : (t : Bool) → cond t None (Some y) ≡ Some x → ◌≡◌ {A = Option MessageToSend} (Some y) (Some x)
     go true e = absurd (cc)
     go false e = e
 
-sound_with : (s : State) (x : Sendable) → IsSound x → Sound s → Sound (state_with s (Some x))
+sound_with : (s : State) (x : MessageToSend) → IsSound x → Sound s → Sound (state_with s (Some x))
 sound_with s x h k q = go x.sort refl q
   where
     go : (r : Sort) → x.sort ≡ r → (q : Sort) → SoundOf q (waiting_of (with_waiting s r (record { blocks = x.blocks; gone = 0 })) q)
@@ -123,12 +123,12 @@ sound_with s x h k q = go x.sort refl q
     go protections e delays = k delays
     go protections e protections = record { all = h.all; few = omega (arith, h.few, ap most_blocks e) }
 
-pub sound_leave : (s : State) (k : Option Kind) (vs : List ℕ) → Sound s → Sound (state_with s (accepted_message s (sendable_of k vs)))
-sound_leave s k vs h = go (accepted_message s (sendable_of k vs)) refl
+pub sound_leave : (s : State) (k : Option Kind) (vs : List ℕ) → Sound s → Sound (state_with s (accepted_message s (message_to_send k vs)))
+sound_leave s k vs h = go (accepted_message s (message_to_send k vs)) refl
   where
-    go : (o : Option Sendable) → accepted_message s (sendable_of k vs) ≡ o → Sound (state_with s o)
+    go : (o : Option MessageToSend) → accepted_message s (message_to_send k vs) ≡ o → Sound (state_with s o)
     go None e = h
-    go (Some x) e = sound_with s x (sendable_sound k vs x (accepted_is s (sendable_of k vs) x e)) h
+    go (Some x) e = sound_with s x (to_send_sound k vs x (accepted_is s (message_to_send k vs) x e)) h
 
 -- ---- what stands in the gap
 -- the next block of a message that waits

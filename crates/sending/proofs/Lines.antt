@@ -4,7 +4,7 @@ use Rattle.block.specs.declared.Block.{Block}
 use Rattle.port.specs.Model.{Lists}
 use Rattle.block.specs.Fixed.{start_block}
 use Rattle.schedule.specs.Cycle.{item_at}
-use Rattle.sending.specs.Messages.{sendable_of}
+use Rattle.sending.specs.Messages.{message_to_send}
 use Rattle.sending.specs.Sender.{Made, State, frame_due, frame_result, item_result, send_result_by, accepted_message}
 use Rattle.sending.specs.Life.{LineItem, frame, gap, made, followed, send, leave, state_of, items_begun_by, blocks, items}
 use Rattle.sending.specs.LineLaws.{blocks_of_item, blocks_of_items, AreOnLine, SendsItsItems}
@@ -46,4 +46,4 @@ pub lined : SendsItsItems
 unfolding blocks items state_of blocks_of_items
 lined m made = inl (refl, refl)
 lined m (followed l (send w)) = step m (state_of m l) w (state_of m l).rest (items m l) (blocks m l) (lined m l)
-lined m (followed l (leave k vs)) = rw (message_kept (state_of m l) (accepted_message (state_of m l) (sendable_of k vs))).rest (same_line (items m l) (blocks m l) (state_of m l).rest (lined m l))
+lined m (followed l (leave k vs)) = rw (message_kept (state_of m l) (accepted_message (state_of m l) (message_to_send k vs))).rest (same_line (items m l) (blocks m l) (state_of m l).rest (lined m l))

@@ -11,7 +11,7 @@ use Rattle.schedule.specs.declared.Item.{Item}
 use Rattle.schedule.specs.declared.Item.TheVariants.{Frame as FrameItem, Idle, Basic, Protection, Verification, ClientSignal, Delay, Spare}
 use Rattle.schedule.proofs.Counts.{frames_more, frames_same, frame_even, frame_odd}
 use Rattle.schedule.proofs.Items.{view}
-use Rattle.sending.specs.Messages.{sendable_of}
+use Rattle.sending.specs.Messages.{message_to_send}
 use Rattle.sending.specs.Laid.{pairs_for, room_for}
 use Rattle.sending.specs.Sender.{Made, State, frame_result, item_result, send_result_by, frame_due, frame_begins_by, accepted_message}
 use Rattle.sending.specs.Life.{Life, LineItem, frame, gap, made, followed, send, leave, state_of, items_begun_by, items}
@@ -104,7 +104,7 @@ standing m (followed l (send w)) = send_step m (state_of m l) w (items m l) (sta
 standing m (followed l (leave k vs)) =
     let h : Standing m (state_of m l) (items m l) = standing m l in
     rw (append-nil (items m l)) (record {
-      counted = counted_kept (state_of m l) _ (length (items m l)) h.counted (message_kept (state_of m l) (accepted_message (state_of m l) (sendable_of k vs)));
+      counted = counted_kept (state_of m l) _ (length (items m l)) h.counted (message_kept (state_of m l) (accepted_message (state_of m l) (message_to_send k vs)));
       sound = sound_leave (state_of m l) k vs h.sound;
       stands = h.stands;
       fills = h.fills;

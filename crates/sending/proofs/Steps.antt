@@ -6,7 +6,7 @@ use Rattle.block.specs.Fixed.{idle_block}
 use Rattle.schedule.specs.declared.Item.{Item}
 use Rattle.schedule.specs.declared.Item.TheVariants.{Frame as FrameItem, Idle, Basic, Protection, Verification, ClientSignal, Delay, Spare}
 use Rattle.schedule.specs.Cycle.{is_frame, next_position}
-use Rattle.sending.specs.Messages.{Sort, delays, protections, Sendable, Waiting, waits, next_block, with_one_gone}
+use Rattle.sending.specs.Messages.{Sort, delays, protections, MessageToSend, Waiting, waits, next_block, with_one_gone}
 use Rattle.sending.specs.Sender.{Made, State, SendResult, frame_result, gap_result, own_result, item_result, with_waiting, state_with}
 
 pub record Gapped (s : State) (w : Lists) (r : SendResult) : Type 0 where
@@ -47,6 +47,6 @@ waiting_kept : (s : State) (q : Sort) (d : Waiting) → Kept s (with_waiting s q
 waiting_kept s delays d = record { rest = refl; position = refl; number = refl }
 waiting_kept s protections d = record { rest = refl; position = refl; number = refl }
 
-pub message_kept : (s : State) (o : Option Sendable) → Kept s (state_with s o)
+pub message_kept : (s : State) (o : Option MessageToSend) → Kept s (state_with s o)
 message_kept s None = record { rest = refl; position = refl; number = refl }
 message_kept s (Some x) = waiting_kept s x.sort _

@@ -1,12 +1,14 @@
 -- What becomes of the clients' blocks, in every life of a sender.
 use Rattle.std.specs.Prelude.{◌≡◌, ◌≢◌, ℕ, ◌-◌, ◌*◌, ◌⊎◌, if◌then◌else◌, List, [], ◌∷◌, ◌++◌, map, length, take, drop, replicate}
+use Rattle.std.specs.List.{All}
 use Rattle.block.specs.declared.Block.{Block}
 use Rattle.block.specs.Fixed.{idle_block, error_block}
 use Rattle.port.specs.Model.{Lists}
 use Rattle.calendar.specs.Share.{slot_count}
 use Rattle.block.specs.Classes.{lawful_or_error}
+use Rattle.block.specs.Whole.{Whole, WholePair}
 use Rattle.sending.specs.Blocks.{without_idles}
-use Rattle.sending.specs.Laid.{room_for, blocks_laid_for}
+use Rattle.sending.specs.Laid.{pairs_for, room_for, blocks_laid_for}
 use Rattle.sending.specs.Sender.{Made, send_result, frame_begins}
 use Rattle.sending.specs.Life.{Life, LineItem, frame, gap, state_of, items_begun, items}
 use Rattle.sending.specs.LineLaws.{Each}
@@ -33,6 +35,10 @@ Carries m (gap b) = Unit {0}
 
 abbrev pub FramesCarry : Type 0
 FramesCarry = (m : Made) (l : Life) → Each (λ i x. Carries m x) 0 (items m l)
+
+-- whole blocks make whole pairs, which a frame can carry and give back
+abbrev pub LaidWhole : Type 0
+LaidWhole = (m : Made) (waiting : Lists) → ((client : ℕ) → All Whole (waiting client)) → All WholePair (pairs_for m.calendar waiting)
 
 -- what the inlets gave for some items, and what was laid into them
 abbrev pub blocks_given_for : List LineItem → Lists

@@ -62,7 +62,12 @@ unfoldable pub life_and : Life → List Call → Life
 life_and l [] = l
 life_and l (c ∷ cs) = life_and (followed l c) cs
 
--- a call makes a life longer by one: from the state that a life leads to, it leads on, and the call's blocks go on the line
-abbrev pub Follows : Made → State → Call → State → List Block → Type 0
-Follows m before c state_after sent_blocks =
-    (l : Life) → state_of m l ≡ before → (state_of m (followed l c) ≡ state_after) × (blocks m (followed l c) ≡ blocks m l ++ sent_blocks)
+-- a call makes a life longer by one: where a life leads to the state before it, the life with the call leads to the state behind it, and has the
+-- call's blocks behind its own
+abbrev pub Lengthens : Made → Call → State → State → List Block → Type 0
+Lengthens m c before behind call_sent =
+    (l : Life) → state_of m l ≡ before → (state_of m (followed l c) ≡ behind) × (blocks m (followed l c) ≡ blocks m l ++ call_sent)
+
+-- so each send with what waits then, and each leaving
+abbrev pub CallsLengthen : Type 0
+CallsLengthen = (m : Made) (c : Call) (s : State) → Lengthens m c s (state_after m s c) (call_blocks m s c)

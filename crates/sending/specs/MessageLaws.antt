@@ -1,14 +1,20 @@
 -- What becomes of the messages that are left, in every life of a sender.
-use Rattle.std.specs.Prelude.{◌≡◌, ℕ, ◌+◌, ◌*◌, ◌/◌, ◌%◌, ◌<◌, ◌≤◌, Bool, true, false, IsTrue, if◌then◌else◌, not, ◌&&◌, List, [], ◌∷◌, ◌++◌, Some, None, Option, length, take, ◌==◌}
+use Rattle.std.specs.Prelude.{◌≡◌, ℕ, ◌+◌, ◌*◌, ◌/◌, ◌%◌, ◌<◌, ◌≤◌, Bool, true, false, IsTrue, if◌then◌else◌, not, ◌&&◌, List, [], ◌∷◌, ◌++◌, Some, None, Option, Err, length, take, ◌==◌}
 use Rattle.std.specs.List.{All, flat_map}
 use Rattle.block.specs.declared.Block.{Block}
+use Rattle.refusal.specs.declared.Refusal.{Refusal}
+use Rattle.message.specs.declared.Kind.{Kind}
 use Rattle.schedule.specs.declared.Item.{Item}
 use Rattle.schedule.specs.declared.Item.TheVariants.{Frame, Idle, Basic, Protection, Verification, ClientSignal, Delay, Spare}
 use Rattle.schedule.specs.Cycle.{item_at, low_priority_item, protection_item, round_items}
 use Rattle.sending.specs.Blocks.{is_idle_block}
-use Rattle.sending.specs.Messages.{Sort, delays, protections, same_sort, Sendable, sendable_of, waits}
-use Rattle.sending.specs.Sender.{Made, State, waiting_of, accepted_message}
+use Rattle.sending.specs.Messages.{Sort, delays, protections, same_sort, MessageToSend, message_to_send, waits}
+use Rattle.sending.specs.Sender.{Made, State, waiting_of, accepted_message, leave_answer, state_after_leave}
 use Rattle.sending.specs.Life.{Call, Life, LineItem, frame, gap, made, followed, send, leave, state_of, items, life_and}
+
+-- a refused leaving leaves the sender as it was
+abbrev pub RefusedKeeps : Type 0
+RefusedKeeps = (s : State) (kind : Option Kind) (values : List ℕ) (cause : Refusal) → leave_answer s kind values ≡ Err cause → state_after_leave s kind values ≡ s
 
 -- the opportunities of a sort, counted from 0 without end, and the items at which they stand:
 -- a round has 13 for delay messages, low priority opportunities 19 to 31; every other cycle has one for APS
@@ -76,13 +82,13 @@ pub record Left : Type 0 where
   pub after : ℕ
   pub blocks : List Block
 
-abbrev pub message_left : Sort → ℕ → Option Sendable → List Left
+abbrev pub message_left : Sort → ℕ → Option MessageToSend → List Left
 message_left sort n None = []
 message_left sort n (Some x) = if same_sort sort x.sort then record { after = n; blocks = x.blocks } ∷ [] else []
 
 abbrev pub left_by_call : Sort → State → ℕ → Call → List Left
 left_by_call sort s n (send waiting) = []
-left_by_call sort s n (leave kind values) = message_left sort n (accepted_message s (sendable_of kind values))
+left_by_call sort s n (leave kind values) = message_left sort n (accepted_message s (message_to_send kind values))
 
 -- the messages of a sort that were accepted, in the order of leaving
 unfoldable pub messages_left : Sort → Made → Life → List Left

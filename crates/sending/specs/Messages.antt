@@ -37,18 +37,18 @@ same_sort protections delays = false
 same_sort protections protections = true
 
 -- a message as it is left
-pub record Sendable : Type 0 where
+pub record MessageToSend : Type 0 where
   pub sort : Sort
   pub blocks : List Block
 
-unfoldable pub sendable_of_kind : Kind → List ℕ → Option Sendable
-sendable_of_kind kind values =
+unfoldable pub message_of_kind : Kind → List ℕ → Option MessageToSend
+message_of_kind kind values =
     if lawful kind values then option_map (λ sort. record { sort = sort; blocks = message_blocks kind (filled values) }) (sort_of kind) else None
 
 -- the message that a kind and values make, none where they make none that may be left; a code may name no kind
-abbrev pub sendable_of : Option Kind → List ℕ → Option Sendable
-sendable_of None values = None
-sendable_of (Some kind) values = sendable_of_kind kind values
+abbrev pub message_to_send : Option Kind → List ℕ → Option MessageToSend
+message_to_send None values = None
+message_to_send (Some kind) values = message_of_kind kind values
 
 -- what waits of a sort: a message's blocks, and how many of them are gone; with all of them gone none waits
 pub record Waiting : Type 0 where

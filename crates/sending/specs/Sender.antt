@@ -14,7 +14,7 @@ use Rattle.schedule.specs.Cycle.{item_at, next_position, is_frame}
 use Rattle.numbers.specs.Walk.{next_frame_number}
 use Rattle.sending.specs.Frames.{frame_rest}
 use Rattle.sending.specs.Laid.{pairs_for, lists_after_frame, blocks_given}
-use Rattle.sending.specs.Messages.{cv_block, cs_block, Sort, delays, protections, Sendable, sendable_of, Waiting, nothing_waits, waits, next_block, with_one_gone}
+use Rattle.sending.specs.Messages.{cv_block, cs_block, Sort, delays, protections, MessageToSend, message_to_send, Waiting, nothing_waits, waits, next_block, with_one_gone}
 
 -- what a sender is made from: the calendar's 480 entries, and the 32 trail bytes of its CV message
 pub record Made : Type 0 where
@@ -127,21 +127,21 @@ with_waiting s delays d = record s { delay = d }
 with_waiting s protections d = record s { protection = d }
 
 -- it is refused where kind and values make none that may be left, and then where one of its sort waits
-abbrev pub leave_answer_to : State → Option Sendable → Result (Unit {0}) Refusal
+abbrev pub leave_answer_to : State → Option MessageToSend → Result (Unit {0}) Refusal
 leave_answer_to s None = Err MessageInvalid
 leave_answer_to s (Some x) = if waits (waiting_of s x.sort) then Err MessageWaits else Ok tt
 
 -- the message that is accepted, none where it is refused
-abbrev pub accepted_message : State → Option Sendable → Option Sendable
+abbrev pub accepted_message : State → Option MessageToSend → Option MessageToSend
 accepted_message s None = None
 accepted_message s (Some x) = if waits (waiting_of s x.sort) then None else Some x
 
-abbrev pub state_with : State → Option Sendable → State
+abbrev pub state_with : State → Option MessageToSend → State
 state_with s None = s
 state_with s (Some x) = with_waiting s x.sort (record { blocks = x.blocks; gone = 0 })
 
 abbrev pub leave_answer : State → Option Kind → List ℕ → Result (Unit {0}) Refusal
-leave_answer s kind values = leave_answer_to s (sendable_of kind values)
+leave_answer s kind values = leave_answer_to s (message_to_send kind values)
 
 abbrev pub state_after_leave : State → Option Kind → List ℕ → State
-state_after_leave s kind values = state_with s (accepted_message s (sendable_of kind values))
+state_after_leave s kind values = state_with s (accepted_message s (message_to_send kind values))

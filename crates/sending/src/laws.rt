@@ -1,8 +1,14 @@
 //! The laws of every life of a sender: made once, then any calls in any order, refused or not, whatever waits at the inlets.
 
+ghost use Rattle.sending.specs.Life.{CallsLengthen};
 ghost use Rattle.sending.specs.LineLaws.{SendsItsItems, ItemsInPlace, GapsNeverStart, CyclesWhole, CycleBlocks, RunsLined};
-ghost use Rattle.sending.specs.ClientLaws.{SlotsFilled, FramesCarry, StretchesCarry, TakesWaiting, GivenLeaves, OthersKeep};
-ghost use Rattle.sending.specs.MessageLaws.{MessagesSent, MessagesOnTime, MessagesEnd, FirstStarts};
+ghost use Rattle.sending.specs.ClientLaws.{SlotsFilled, LaidWhole, FramesCarry, StretchesCarry, TakesWaiting, GivenLeaves, OthersKeep};
+ghost use Rattle.sending.specs.MessageLaws.{RefusedKeeps, MessagesSent, MessagesOnTime, MessagesEnd, FirstStarts};
+
+/// Each call makes a life longer by one.
+pub fn the_calls()
+    ensures { CallsLengthen }
+{}
 
 /// What stands on the line.
 pub fn the_line()
@@ -17,6 +23,7 @@ pub fn the_line()
 /// What becomes of the clients' blocks.
 pub fn the_clients()
     ensures slots { SlotsFilled }
+    ensures whole { LaidWhole }
     ensures carries { FramesCarry }
     ensures stretches { StretchesCarry }
     ensures waiting { TakesWaiting }
@@ -26,6 +33,7 @@ pub fn the_clients()
 
 /// What becomes of the messages that are left.
 pub fn the_messages()
+    ensures refused { RefusedKeeps }
     ensures sent { MessagesSent }
     ensures on_time { MessagesOnTime }
     ensures first { FirstStarts }
