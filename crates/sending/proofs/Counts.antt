@@ -5,7 +5,7 @@ use Rattle.schedule.specs.Cycle.{item_at, is_frame, frames_before, next_position
 use Rattle.schedule.proofs.Counts.{comes_again, frame_even, frame_odd, frames_more, frames_same}
 use Rattle.schedule.proofs.Items.{view}
 use Rattle.numbers.specs.Walk.{next_frame_number}
-use Rattle.sending.specs.Sender.{Made, State, SendResult, new_state, frame_result, item_result}
+use Rattle.sending.specs.Sender.{Made, State, SendResult, new_state, frame_result}
 use Rattle.sending.proofs.Steps.{Gapped, Kept}
 
 pub record Counted (s : State) (n : ℕ) : Type 0 where

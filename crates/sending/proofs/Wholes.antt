@@ -1,9 +1,8 @@
 -- Whole blocks make whole pairs.
-use Rattle.std.proofs.Common.{◌≡◌, ℕ, zero, suc, ◌<◌, Bool, true, false, cond, eqb, List, [], ◌∷◌, length, Some, None, refl, lit<, arith}
+use Rattle.std.proofs.Common.{ℕ, zero, suc, ◌<◌, Bool, true, false, cond, eqb, List, [], ◌∷◌, refl, lit<, arith}
 use Rattle.std.specs.List.{All, AllByRecursion}
 use Rattle.std.proofs.lemmas.List.Elements.{All-from_recursion, All-head, All-tail}
 use Rattle.block.specs.declared.Block.{Block}
-use Rattle.block.specs.declared.Pair.{Pair}
 use Rattle.block.specs.Whole.{Bytes, Whole, WholePair}
 use Rattle.block.specs.Classes.{class_of, is_lawful, lawful_or_error}
 use Rattle.block.specs.Fixed.{idle_block, error_block}

@@ -4,7 +4,7 @@ use Rattle.block.specs.declared.Block.{Block}
 use Rattle.port.specs.Model.{Lists}
 use Rattle.message.specs.declared.Kind.{Kind}
 use Rattle.schedule.specs.Cycle.{item_at, is_frame}
-use Rattle.sending.specs.Sender.{Made, State, LineFrame, new_state, frame_due, item_result, send_result, state_after_leave}
+use Rattle.sending.specs.Sender.{Made, State, Sender, new_sender, LineFrame, new_state, frame_due, item_result, send_result, state_after_leave}
 
 pub data Call : Type 0 where
   -- a send, with what waits at the inlet then
@@ -62,12 +62,16 @@ unfoldable pub life_and : Life → List Call → Life
 life_and l [] = l
 life_and l (c ∷ cs) = life_and (followed l c) cs
 
--- a call makes a life longer by one: where a life leads to the state before it, the life with the call leads to the state behind it, and has the
--- call's blocks behind its own
-abbrev pub Lengthens : Made → Call → State → State → List Block → Type 0
-Lengthens m c before behind call_sent =
-    (l : Life) → state_of m l ≡ before → (state_of m (followed l c) ≡ behind) × (blocks m (followed l c) ≡ blocks m l ++ call_sent)
+-- a call makes a life longer by one: the sender is made from the same, and where a life leads to its state before the call, the life with the call
+-- leads to its state behind it, and has the call's blocks behind its own
+abbrev pub Lengthens : Sender → Call → Sender → List Block → Type 0
+Lengthens before c behind call_sent =
+    (behind.made ≡ before.made)
+    × ((l : Life) → state_of before.made l ≡ before.state
+    → (state_of before.made (followed l c) ≡ behind.state) × (blocks before.made (followed l c) ≡ blocks before.made l ++ call_sent))
 
--- so each send with what waits then, and each leaving
+-- so each send, with what waits then, and each leaving; and to a sender that is made leads the life with no call
 abbrev pub CallsLengthen : Type 0
-CallsLengthen = (m : Made) (c : Call) (s : State) → Lengthens m c s (state_after m s c) (call_blocks m s c)
+CallsLengthen =
+    ((s : Sender) (c : Call) → Lengthens s c (record s { state = state_after s.made s.state c }) (call_blocks s.made s.state c))
+    × ((calendar trail : List ℕ) → state_of (new_sender calendar trail).made made ≡ (new_sender calendar trail).state)

@@ -145,3 +145,11 @@ leave_answer s kind values = leave_answer_to s (message_to_send kind values)
 
 abbrev pub state_after_leave : State → Option Kind → List ℕ → State
 state_after_leave s kind values = state_with s (accepted_message s (message_to_send kind values))
+
+-- a sender as its calls see it
+pub record Sender : Type 0 where
+  pub made : Made
+  pub state : State
+
+abbrev pub new_sender : List ℕ → List ℕ → Sender
+new_sender calendar trail = record { made = record { calendar = calendar; trail = trail }; state = new_state }
