@@ -15,7 +15,7 @@ unfolding item_at
 round_counts = refl
 
 -- ---- frames
-frame_even : (i : ℕ) → At i → is_frame (item_at i) ≡ true → i % 65 % 2 ≡ 0
+pub frame_even : (i : ℕ) → At i → is_frame (item_at i) ≡ true → i % 65 % 2 ≡ 0
 frame_even i (a_frame h e) t = h
 frame_even i (a_basic h e) t = absurd (both_ways (is_frame (item_at i)) (ap is_frame e) t)
 frame_even i (an_idle h e) t = absurd (both_ways (is_frame (item_at i)) (ap is_frame e) t)
@@ -49,7 +49,7 @@ counted_in : (xs : List Item) → frames_in xs ≡ count_by is_frame xs
 unfolding frames_in
 counted_in xs = is_count_by frames_in is_frame refl (λ x ys. refl) xs
 
-frame_odd : (i : ℕ) → is_frame (item_at i) ≡ false → i % 65 % 2 ≡ 1
+pub frame_odd : (i : ℕ) → is_frame (item_at i) ≡ false → i % 65 % 2 ≡ 1
 frame_odd i f = let z : i % 65 % 2 ≡ 0 → ⊥ = λ y. both_ways (is_frame (item_at i)) f (is_frame-even i y) in omega arith
 
 one_in : (i n rest : ℕ) → rest + frames_before (i + 1) ≡ frames_before ((i + 1) + n) → (b : Bool) → is_frame (item_at i) ≡ b → cond b (1 + rest) rest + frames_before i ≡ frames_before (i + suc n)

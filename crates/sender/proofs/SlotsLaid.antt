@@ -9,17 +9,17 @@ use Rattle.numbers.specs.Walk.{numbers_between}
 use Rattle.numbers.proofs.Walks.{numbers_between_next, numbers_between_end}
 use Rattle.under_way.specs.Departure.{Departure}
 use Rattle.under_way.specs.Leaving.{with_pair}
-use Rattle.sending.specs.Laid.{left_by_frame, left_by_slot, pair_laid, pairs_laid}
+use Rattle.sending.specs.Laid.{lists_after_frame, lists_after_slot, pair_for, pairs_for}
 
-laid_push : (es : List ℕ) (e : ℕ) (w : Lists) → pairs_laid (es ++ (e ∷ [])) w ≡ pairs_laid es w ++ (pair_laid e (left_by_frame es w) ∷ [])
-unfolding pairs_laid left_by_frame
+laid_push : (es : List ℕ) (e : ℕ) (w : Lists) → pairs_for (es ++ (e ∷ [])) w ≡ pairs_for es w ++ (pair_for e (lists_after_frame es w) ∷ [])
+unfolding pairs_for lists_after_frame
 laid_push [] e w = refl
-laid_push (d ∷ es) e w = ap (λ l. pair_laid d w ∷ l) (laid_push es e (left_by_slot d w))
+laid_push (d ∷ es) e w = ap (λ l. pair_for d w ∷ l) (laid_push es e (lists_after_slot d w))
 
-left_push : (es : List ℕ) (e : ℕ) (w : Lists) → left_by_frame (es ++ (e ∷ [])) w ≡ left_by_slot e (left_by_frame es w)
-unfolding left_by_frame
+left_push : (es : List ℕ) (e : ℕ) (w : Lists) → lists_after_frame (es ++ (e ∷ [])) w ≡ lists_after_slot e (lists_after_frame es w)
+unfolding lists_after_frame
 left_push [] e w = refl
-left_push (d ∷ es) e w = left_push es e (left_by_slot d w)
+left_push (d ∷ es) e w = left_push es e (lists_after_slot d w)
 
 -- slots 1 to n are laid, from the lists w, of which v is left
 pub record Laid (entries : List ℕ) (n : ℕ) (w v : Lists) (frame : Departure) (to_come : List ℕ) : Type 0 where
@@ -27,11 +27,11 @@ pub record Laid (entries : List ℕ) (n : ℕ) (w v : Lists) (frame : Departure)
   pub within : n ≤ 480
   pub between : frame.rest ≡ []
   pub many : (n ≡ 0) ⊎ (length frame.pairs ≡ 480)
-  pub laid : take n frame.pairs ≡ pairs_laid (take n entries) w
-  pub left : v ≡ left_by_frame (take n entries) w
+  pub laid : take n frame.pairs ≡ pairs_for (take n entries) w
+  pub left : v ≡ lists_after_frame (take n entries) w
 
 pub none_laid : (entries : List ℕ) (w : Lists) (frame : Departure) (to_come : List ℕ) → to_come ≡ numbers_between 1 480 → frame.rest ≡ [] → Laid entries 0 w w frame to_come
-unfolding pairs_laid left_by_frame
+unfolding pairs_for lists_after_frame
 none_laid entries w frame to_come e h = record { walk = e; within = omega arith; between = h; many = inl refl; laid = refl; left = refl }
 
 head_is : (n k : ℕ) (rest : List ℕ) → numbers_between (n + 1) 480 ≡ k ∷ rest → (n < 480) × ((k ≡ n + 1) × (rest ≡ numbers_between (n + 1 + 1) 480))
@@ -56,8 +56,8 @@ pub one_laid :
     → length entries ≡ 480
     → Laid entries n w v frame to_come
     → to_come ≡ k ∷ rest
-    → p ≡ pair_laid (get_or entries (k - 1) 0) v
-    → u ≡ left_by_slot (get_or entries (k - 1) 0) v
+    → p ≡ pair_for (get_or entries (k - 1) 0) v
+    → u ≡ lists_after_slot (get_or entries (k - 1) 0) v
     → new ≡ with_pair k p frame
     → length new.pairs ≡ 480
     → Laid entries (n + 1) w u new rest
@@ -78,13 +78,13 @@ one_laid entries n w v u frame new to_come rest k p long s e pair left made many
           ap (λ (d : Departure). take (n + 1) d.pairs) new_is
           ∙ take_more_set frame.pairs n p (omega (arith, h.0, many_pairs))
           ∙ ap (λ (l : List Pair). l ++ (p ∷ [])) s.laid
-          ∙ ap (λ (q : Pair). pairs_laid (take n entries) w ++ (q ∷ [])) (pair ∙ ap (λ (x : ℕ). pair_laid x v) entry ∙ ap (pair_laid (get_or entries n 0)) s.left)
+          ∙ ap (λ (q : Pair). pairs_for (take n entries) w ++ (q ∷ [])) (pair ∙ ap (λ (x : ℕ). pair_for x v) entry ∙ ap (pair_for (get_or entries n 0)) s.left)
           ∙ sym (laid_push (take n entries) (get_or entries n 0) w)
-          ∙ ap (λ (l : List ℕ). pairs_laid l w) (sym (take_more entries n 0 (omega (arith, h.0, long))));
+          ∙ ap (λ (l : List ℕ). pairs_for l w) (sym (take_more entries n 0 (omega (arith, h.0, long))));
       left =
-          left ∙ ap (λ (x : ℕ). left_by_slot x v) entry ∙ ap (left_by_slot (get_or entries n 0)) s.left
+          left ∙ ap (λ (x : ℕ). lists_after_slot x v) entry ∙ ap (lists_after_slot (get_or entries n 0)) s.left
           ∙ sym (left_push (take n entries) (get_or entries n 0) w)
-          ∙ ap (λ (l : List ℕ). left_by_frame l w) (sym (take_more entries n 0 (omega (arith, h.0, long))));
+          ∙ ap (λ (l : List ℕ). lists_after_frame l w) (sym (take_more entries n 0 (omega (arith, h.0, long))));
     }
 
 -- all slots are laid, where none is to come
@@ -93,7 +93,7 @@ pub all_laid :
     → length entries ≡ 480
     → Laid entries n w v frame to_come
     → to_come ≡ []
-    → (frame ≡ record { pairs = pairs_laid entries w; rest = [] }) × (v ≡ left_by_frame entries w)
+    → (frame ≡ record { pairs = pairs_for entries w; rest = [] }) × (v ≡ lists_after_frame entries w)
 all_laid entries n w v frame to_come long s e =
     let last : n ≡ 480 =
     ⊎_elim
@@ -107,9 +107,9 @@ all_laid entries n w v frame to_come long s e =
     let made : List Pair → List Block → Departure = λ ps bs. record { pairs = ps; rest = bs } in
     (
       ap₂ made
-          (sym (take_all n frame.pairs (omega (arith, last, many))) ∙ s.laid ∙ ap (λ (l : List ℕ). pairs_laid l w) entries_all)
+          (sym (take_all n frame.pairs (omega (arith, last, many))) ∙ s.laid ∙ ap (λ (l : List ℕ). pairs_for l w) entries_all)
           s.between,
-      s.left ∙ ap (λ (l : List ℕ). left_by_frame l w) entries_all,
+      s.left ∙ ap (λ (l : List ℕ). lists_after_frame l w) entries_all,
     )
 
 -- the same, where the count is that of what was walked
@@ -119,8 +119,8 @@ pub next_laid :
     → length entries ≡ 480
     → Laid entries n w v frame to_come
     → to_come ≡ k ∷ rest
-    → p ≡ pair_laid (get_or entries (k - 1) 0) v
-    → u ≡ left_by_slot (get_or entries (k - 1) 0) v
+    → p ≡ pair_for (get_or entries (k - 1) 0) v
+    → u ≡ lists_after_slot (get_or entries (k - 1) 0) v
     → new ≡ with_pair k p frame
     → length new.pairs ≡ 480
     → Laid entries m w u new rest

@@ -3,7 +3,7 @@
 ghost use Rattle.std.specs.Prelude.{◌≡◌, [], true};
 ghost use Rattle.calendar.specs.Entries.{entries_of};
 ghost use Rattle.numbers.specs.Entries.{entry_of, is_entry};
-ghost use Rattle.sending.specs.Laid.{laid_block, left_by_frame, left_by_slot, pair_laid, pairs_laid};
+ghost use Rattle.sending.specs.Laid.{block_for, lists_after_frame, lists_after_slot, pair_for, pairs_for};
 
 use block::{Block, Pair};
 use calendar::Calendar;
@@ -14,12 +14,12 @@ use under_way::outgoing::Outgoing;
 // Fills the slots of the next frame, slot 1 to slot 480.
 pub(crate) fn lay<I: Inlet>(calendar: &Calendar, inlet: &mut I, frame: &mut Outgoing)
     requires { frame.old.rest ≡ [] }
-    ensures laid { frame.new ≡ record { pairs = pairs_laid (entries_of calendar.now) (I.waiting inlet.old); rest = [] } }
-    ensures left { I.waiting inlet.new ≡ left_by_frame (entries_of calendar.now) (I.waiting inlet.old) }
+    ensures laid { frame.new ≡ record { pairs = pairs_for (entries_of calendar.now) (I.waiting inlet.old); rest = [] } }
+    ensures left { I.waiting inlet.new ≡ lists_after_frame (entries_of calendar.now) (I.waiting inlet.old) }
 {
     for slot in SlotNumber::all() {
         let pair = pair_for(calendar.client(slot), inlet);
-        // never refused: no frame is being sent
+        // never refused: no frame is being send_result
         let _ = frame.write_pair(slot, pair);
     }
 }
@@ -28,8 +28,8 @@ pub(crate) fn lay<I: Inlet>(calendar: &Calendar, inlet: &mut I, frame: &mut Outg
 #[tactic(auto, using(crate::proofs::Slots::second_of_two))]
 fn pair_for<I: Inlet>(client: Option<ClientNumber>, inlet: &mut I) -> Pair
     requires { is_entry client ≡ true }
-    ensures pair { result ≡ pair_laid (entry_of client) (I.waiting inlet.old) }
-    ensures left { I.waiting inlet.new ≡ left_by_slot (entry_of client) (I.waiting inlet.old) }
+    ensures pair { result ≡ pair_for (entry_of client) (I.waiting inlet.old) }
+    ensures left { I.waiting inlet.new ≡ lists_after_slot (entry_of client) (I.waiting inlet.old) }
 {
     let Some(client) = client else {
         return Pair {
@@ -44,7 +44,7 @@ fn pair_for<I: Inlet>(client: Option<ClientNumber>, inlet: &mut I) -> Pair
 
 // What is laid for an inlet's answer: an idle where no block waits, the error block for an unlawful one.
 fn laid(block: Option<Block>) -> Block
-    ensures { result ≡ laid_block block }
+    ensures { result ≡ block_for block }
 {
     match block {
         None => Block::idle(),

@@ -3,8 +3,7 @@ use Rattle.std.specs.Prelude.{Bool, true, false, if◌then◌else◌, List, [], 
 use Rattle.block.specs.declared.Block.{Block}
 use Rattle.block.specs.declared.Class.{Class}
 use Rattle.block.specs.declared.Class.TheVariants.{Data, Idle, Characters, OrderedSet, Start, End, Unlawful}
-use Rattle.block.specs.Classes.{class_of, is_lawful, is_start, lawful_or_error}
-use Rattle.block.specs.Fixed.{error_block}
+use Rattle.block.specs.Classes.{class_of, is_start}
 
 unfoldable pub is_start_block : Block → Bool
 is_start_block b = is_start (class_of b)
@@ -18,16 +17,9 @@ is_idle_class Start = false
 is_idle_class (End n) = false
 is_idle_class Unlawful = false
 
-unfoldable pub is_idle : Block → Bool
-is_idle b = is_idle_class (class_of b)
-
-unfoldable pub is_lawful_block : Block → Bool
-is_lawful_block b = is_lawful (class_of b)
-
--- in the place of an unlawful block stands the error block
-abbrev pub replaced : Block → Block
-replaced b = lawful_or_error b
+unfoldable pub is_idle_block : Block → Bool
+is_idle_block b = is_idle_class (class_of b)
 
 unfoldable pub without_idles : List Block → List Block
 without_idles [] = []
-without_idles (b ∷ bs) = if is_idle b then without_idles bs else b ∷ without_idles bs
+without_idles (b ∷ bs) = if is_idle_block b then without_idles bs else b ∷ without_idles bs

@@ -1,19 +1,14 @@
--- The frame that says number and entry and carries pairs.
-use Rattle.std.specs.Prelude.{ℕ, ◌+◌, ◌%◌, List, ◌++◌, drop}
+-- Frames as a sender numbers and cuts them.
+use Rattle.std.specs.Prelude.{ℕ, List, drop}
 use Rattle.block.specs.declared.Block.{Block}
 use Rattle.block.specs.declared.Pair.{Pair}
-use Rattle.overhead.specs.Format.{overhead_bytes}
-use Rattle.payload.specs.Payloads.{payload_of}
-use Rattle.frame.specs.Frames.{frame_of}
+use Rattle.overhead.specs.Format.{Fields}
+use Rattle.whole_frame.specs.Meaning.{frame_written}
 
--- its 992 blocks
-unfoldable pub frame_blocks : ℕ → ℕ → List Pair → List Block
-frame_blocks number entry pairs = frame_of (overhead_bytes (record { entry = entry; frame = number }) ++ payload_of pairs)
+-- what a frame says of itself: its number, and the calendar entry that it announces
+abbrev pub fields : ℕ → ℕ → Fields
+fields number entry = record { entry = entry; frame = number }
 
--- the 991 behind its start block
+-- its blocks behind the start block
 unfoldable pub frame_rest : ℕ → ℕ → List Pair → List Block
-frame_rest number entry pairs = drop 1 (frame_blocks number entry pairs)
-
--- frames are numbered from 0 to 479, and 0 follows
-abbrev pub next_frame : ℕ → ℕ
-next_frame number = (number + 1) % 480
+frame_rest number entry pairs = drop 1 (frame_written (fields number entry) pairs)

@@ -1,41 +1,42 @@
 -- What stands on the line, in every life of a sender.
-use Rattle.std.specs.Prelude.{◌≡◌, ℕ, ◌+◌, ◌*◌, ◌/◌, ◌%◌, ◌<◌, ◌≤◌, ◌⊎◌, IsTrue, IsFalse, List, [], ◌∷◌, ◌++◌, length, take, drop, slice_index}
+use Rattle.std.specs.Prelude.{◌≡◌, ℕ, ◌+◌, ◌*◌, ◌%◌, ◌<◌, ◌≤◌, ◌⊎◌, IsTrue, IsFalse, List, [], ◌∷◌, ◌++◌, length, take, drop, slice_index}
 use Rattle.block.specs.declared.Block.{Block}
 use Rattle.block.specs.Fixed.{idle_block, start_block}
 use Rattle.message.specs.Written.{basic_block}
 use Rattle.schedule.specs.declared.Item.{Item}
 use Rattle.schedule.specs.declared.Item.TheVariants.{Frame as FrameItem, Idle, Basic, Protection, Verification, ClientSignal, Delay, Spare}
 use Rattle.schedule.specs.Cycle.{item_at, frames_before}
-use Rattle.sending.specs.Frames.{frame_blocks}
+use Rattle.whole_frame.specs.Meaning.{frame_written}
+use Rattle.sending.specs.Frames.{fields}
 use Rattle.sending.specs.Blocks.{is_start_block}
 use Rattle.sending.specs.Messages.{cv_block, cs_block, is_message}
-use Rattle.sending.specs.Sender.{Made, Frame}
+use Rattle.sending.specs.Sender.{Made, LineFrame}
 use Rattle.sending.specs.Life.{Life, LineItem, frame, gap, state_of, blocks, items}
 
 -- the blocks of an item, and of items in order
 abbrev pub blocks_of_item : LineItem → List Block
-blocks_of_item (frame f) = frame_blocks f.number f.entry f.pairs
+blocks_of_item (frame f) = frame_written (fields f.number f.entry) f.pairs
 blocks_of_item (gap b) = b ∷ []
 
-unfoldable pub joined : List LineItem → List Block
-joined [] = []
-joined (x ∷ xs) = blocks_of_item x ++ joined xs
+unfoldable pub blocks_of_items : List LineItem → List Block
+blocks_of_items [] = []
+blocks_of_items (x ∷ xs) = blocks_of_item x ++ blocks_of_items xs
 
 -- all items are sent whole, or all but the last, a frame of which some blocks are still to come
-abbrev pub Lined : List LineItem → List Block → List Block → Type 0
-Lined is bs rest =
-    ((bs ≡ joined is) × (rest ≡ []))
-    ⊎ ((before : List LineItem) × ((f : Frame) × ((front : List Block) × (
+abbrev pub AreOnLine : List LineItem → List Block → List Block → Type 0
+AreOnLine is bs rest =
+    ((bs ≡ blocks_of_items is) × (rest ≡ []))
+    ⊎ ((before : List LineItem) × ((f : LineFrame) × ((front : List Block) × (
     (is ≡ before ++ (frame f ∷ []))
-    × (bs ≡ joined before ++ (start_block ∷ front))
+    × (bs ≡ blocks_of_items before ++ (start_block ∷ front))
     × (blocks_of_item (frame f) ≡ start_block ∷ (front ++ rest))))))
 
 -- the blocks sent are those of the items begun, in order
 abbrev pub SendsItsItems : Type 0
-SendsItsItems = (m : Made) (l : Life) → Lined (items m l) (blocks m l) (state_of m l).rest
+SendsItsItems = (m : Made) (l : Life) → AreOnLine (items m l) (blocks m l) (state_of m l).rest
 
 -- item i of a life, from 0, is what the schedule says: a frame has its number, announces its entry, and has a pair for each slot
-pub record FrameStands (m : Made) (i : ℕ) (f : Frame) : Type 0 where
+pub record FrameStands (m : Made) (i : ℕ) (f : LineFrame) : Type 0 where
   pub item : item_at i ≡ FrameItem
   pub number : f.number ≡ frames_before i % 480
   pub entry : f.entry ≡ slice_index m.calendar f.number
@@ -92,21 +93,21 @@ abbrev pub CyclesWhole : Type 0
 CyclesWhole =
     (m : Made) (l : Life) (c : ℕ)
     → 65 * c + 65 ≤ length (items m l)
-    → (frame_count (cycle_of m l c) ≡ 33) × (length (joined (cycle_of m l c)) ≡ 32768)
+    → (frame_count (cycle_of m l c) ≡ 33) × (length (blocks_of_items (cycle_of m l c)) ≡ 32768)
 
 -- and the 32,768 blocks that begin cycle c are those of its items
 abbrev pub CycleBlocks : Type 0
 CycleBlocks =
     (m : Made) (l : Life) (c : ℕ)
     → 65 * c + 65 < length (items m l)
-    → take 32768 (drop (32768 * c) (blocks m l)) ≡ joined (cycle_of m l c)
+    → take 32768 (drop (32768 * c) (blocks m l)) ≡ blocks_of_items (cycle_of m l c)
 
 -- the blocks from item i on are those of the items from i on
 abbrev pub blocks_from : Made → Life → ℕ → List Block
-blocks_from m l i = drop (length (joined (take i (items m l)))) (blocks m l)
+blocks_from m l i = drop (length (blocks_of_items (take i (items m l)))) (blocks m l)
 
 abbrev pub RunsLined : Type 0
 RunsLined =
     (m : Made) (l : Life) (i : ℕ)
     → i < length (items m l)
-    → Lined (drop i (items m l)) (blocks_from m l i) (state_of m l).rest
+    → AreOnLine (drop i (items m l)) (blocks_from m l i) (state_of m l).rest

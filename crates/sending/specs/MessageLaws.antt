@@ -1,17 +1,23 @@
 -- What becomes of the messages that are left, in every life of a sender.
-use Rattle.std.specs.Prelude.{◌≡◌, ℕ, ◌+◌, ◌*◌, ◌/◌, ◌%◌, ◌<◌, ◌≤◌, Bool, true, false, IsTrue, if◌then◌else◌, not, ◌&&◌, List, [], ◌∷◌, ◌++◌, Some, None, Option, length, take, ◌==◌}
+use Rattle.std.specs.Prelude.{◌≡◌, ℕ, ◌+◌, ◌*◌, ◌/◌, ◌%◌, ◌<◌, ◌≤◌, Bool, true, false, IsTrue, if◌then◌else◌, not, ◌&&◌, List, [], ◌∷◌, ◌++◌, Some, None, Option, Err, length, take, ◌==◌}
 use Rattle.std.specs.List.{All, flat_map}
 use Rattle.block.specs.declared.Block.{Block}
+use Rattle.refusal.specs.declared.Refusal.{Refusal}
+use Rattle.message.specs.declared.Kind.{Kind}
 use Rattle.schedule.specs.declared.Item.{Item}
 use Rattle.schedule.specs.declared.Item.TheVariants.{Frame, Idle, Basic, Protection, Verification, ClientSignal, Delay, Spare}
 use Rattle.schedule.specs.Cycle.{item_at, low_priority_item, protection_item, round_items}
-use Rattle.sending.specs.Blocks.{is_idle}
+use Rattle.sending.specs.Blocks.{is_idle_block}
 use Rattle.sending.specs.Messages.{same_sort}
-use Rattle.waiting.specs.Messages.{Message, message_of, Waiting, waits}
+use Rattle.waiting.specs.Messages.{MessageToSend, message_to_send, waits}
 use Rattle.waiting.specs.declared.Sort.{Sort}
 use Rattle.waiting.specs.declared.Sort.TheVariants.{Delay as delays, Protection as protections}
-use Rattle.sending.specs.Sender.{Made, State, waiting_of, accepted}
-use Rattle.sending.specs.Life.{Call, Life, LineItem, frame, gap, made, followed, send, leave, state_of, items, longer}
+use Rattle.sending.specs.Sender.{Made, State, waiting_of, accepted_message, leave_answer, state_after_leave}
+use Rattle.sending.specs.Life.{Call, Life, LineItem, frame, gap, made, followed, send, leave, state_of, items, life_and}
+
+-- a refused leaving leaves the sender as it was
+abbrev pub RefusedKeeps : Type 0
+RefusedKeeps = (s : State) (kind : Option Kind) (values : List ℕ) (cause : Refusal) → leave_answer s kind values ≡ Err cause → state_after_leave s kind values ≡ s
 
 -- the opportunities of a sort, counted from 0 without end, and the items at which they stand:
 -- a round has 13 for delay messages, low priority opportunities 19 to 31; every other cycle has one for APS
@@ -66,26 +72,26 @@ in_a_row sort k [] = []
 in_a_row sort k (b ∷ bs) = record { item = opportunity_item sort k; block = b } ∷ in_a_row sort (k + 1) bs
 
 -- what the line has at the opportunities of a sort, idles aside, where the items begin with item i
-abbrev pub found_at : Sort → ℕ → LineItem → List BlockAt
-found_at sort i (frame f) = []
-found_at sort i (gap b) = if is_opportunity sort (item_at i) && not (is_idle b) then record { item = i; block = b } ∷ [] else []
+abbrev pub found_at_item : Sort → ℕ → LineItem → List BlockAt
+found_at_item sort i (frame f) = []
+found_at_item sort i (gap b) = if is_opportunity sort (item_at i) && not (is_idle_block b) then record { item = i; block = b } ∷ [] else []
 
-unfoldable pub found : Sort → ℕ → List LineItem → List BlockAt
-found sort i [] = []
-found sort i (x ∷ xs) = found_at sort i x ++ found sort (i + 1) xs
+unfoldable pub found_on_line : Sort → ℕ → List LineItem → List BlockAt
+found_on_line sort i [] = []
+found_on_line sort i (x ∷ xs) = found_at_item sort i x ++ found_on_line sort (i + 1) xs
 
 -- a message that was accepted: how many items had begun when it was left, and its blocks
 pub record Left : Type 0 where
   pub after : ℕ
   pub blocks : List Block
 
-abbrev pub left_now : Sort → ℕ → Option Message → List Left
-left_now sort n None = []
-left_now sort n (Some x) = if same_sort sort x.sort then record { after = n; blocks = x.blocks } ∷ [] else []
+abbrev pub message_left : Sort → ℕ → Option MessageToSend → List Left
+message_left sort n None = []
+message_left sort n (Some x) = if same_sort sort x.sort then record { after = n; blocks = x.blocks } ∷ [] else []
 
 abbrev pub left_by_call : Sort → State → ℕ → Call → List Left
 left_by_call sort s n (send waiting) = []
-left_by_call sort s n (leave kind values) = left_now sort n (accepted s (message_of kind values))
+left_by_call sort s n (leave kind values) = message_left sort n (accepted_message s (message_to_send kind values))
 
 -- the messages of a sort that were accepted, in the order of leaving
 unfoldable pub messages_left : Sort → Made → Life → List Left
@@ -93,15 +99,15 @@ messages_left sort m made = []
 messages_left sort m (followed l c) = messages_left sort m l ++ left_by_call sort (state_of m l) (length (items m l)) c
 
 -- messages sent whole: each from the first opportunity on at which it may start
-abbrev pub sent_whole : Sort → List Left → List BlockAt
-sent_whole sort = flat_map (λ (x : Left). in_a_row sort (first_start sort x.after) x.blocks)
+abbrev pub whole_messages : Sort → List Left → List BlockAt
+whole_messages sort = flat_map (λ (x : Left). in_a_row sort (first_start sort x.after) x.blocks)
 
 -- what the line has at the opportunities of a sort, and then some blocks at items still to come, are the messages left, whole, once each, in order
 abbrev pub MessagesOnTime : Type 0
 MessagesOnTime =
     (sort : Sort) (m : Made) (l : Life)
     → ((rest : List BlockAt) × (
-    (found sort 0 (items m l) ++ rest ≡ sent_whole sort (messages_left sort m l))
+    (found_on_line sort 0 (items m l) ++ rest ≡ whole_messages sort (messages_left sort m l))
     × All (λ (x : BlockAt). length (items m l) ≤ x.item) rest))
 
 -- all but the last are whole on the line, and the last is too unless it waits: then the line has the blocks of it that are gone
@@ -111,7 +117,7 @@ MessagesSent =
     → let d = waiting_of (state_of m l) sort in
     ((done : List Left) × ((last : Left) × (
     (messages_left sort m l ≡ done ++ (if waits d then last ∷ [] else []))
-    × (found sort 0 (items m l) ≡ sent_whole sort done ++ (if waits d then in_a_row sort (first_start sort last.after) (take d.gone last.blocks) else [])))))
+    × (found_on_line sort 0 (items m l) ≡ whole_messages sort done ++ (if waits d then in_a_row sort (first_start sort last.after) (take d.gone last.blocks) else [])))))
 
 -- how many items it takes at most until a message that waits is whole on the line
 abbrev pub longest_wait : Sort → ℕ
@@ -123,6 +129,6 @@ abbrev pub MessagesEnd : Type 0
 MessagesEnd =
     (sort : Sort) (m : Made) (l : Life) (cs : List Call)
     → IsTrue (waits (waiting_of (state_of m l) sort))
-    → length (items m l) + longest_wait sort ≤ length (items m (longer l cs))
-    → length (messages_left sort m l) + (if waits (waiting_of (state_of m (longer l cs)) sort) then 1 else 0)
-    ≤ length (messages_left sort m (longer l cs))
+    → length (items m l) + longest_wait sort ≤ length (items m (life_and l cs))
+    → length (messages_left sort m l) + (if waits (waiting_of (state_of m (life_and l cs)) sort) then 1 else 0)
+    ≤ length (messages_left sort m (life_and l cs))

@@ -1,4 +1,4 @@
--- The messages that a sender writes of itself, and those that may be left with it.
+-- The messages that a sender writes of itself, and the sorts of those that may be left with it.
 use Rattle.std.specs.Prelude.{ℕ, ◌+◌, Bool, true, false, if◌then◌else◌, List, [], ◌∷◌, ◌++◌, Some, None, Option, length, nat_lt, slice_index_or}
 use Rattle.std.specs.Option.{option_map}
 use Rattle.block.specs.declared.Block.{Block}

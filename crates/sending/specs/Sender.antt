@@ -11,10 +11,12 @@ use Rattle.message.specs.Written.{basic_block}
 use Rattle.schedule.specs.declared.Item.{Item}
 use Rattle.schedule.specs.declared.Item.TheVariants.{Frame as FrameItem, Idle, Basic, Protection, Verification, ClientSignal, Delay, Spare}
 use Rattle.schedule.specs.Cycle.{item_at, next_position, is_frame}
-use Rattle.sending.specs.Frames.{frame_blocks, frame_rest, next_frame}
-use Rattle.sending.specs.Laid.{pairs_laid, left_by_frame, given_for_frame}
+use Rattle.numbers.specs.Walk.{next_frame_number}
+use Rattle.sending.specs.Frames.{frame_rest}
+use Rattle.sending.specs.Laid.{pairs_for, lists_after_frame, blocks_given}
 use Rattle.sending.specs.Messages.{cv_block, cs_block}
-use Rattle.waiting.specs.Messages.{Message, message_of, Waiting, nothing_waits, waits, next_block, one_gone}
+use Rattle.waiting.specs.Left.{Left, nothing_left, waiting_in, left_with, answer_by, accepted_by, left_with_message, left_answer, left_after_leave}
+use Rattle.waiting.specs.Messages.{MessageToSend, message_to_send, Waiting, nothing_waits, waits, next_block, with_one_gone}
 use Rattle.waiting.specs.declared.Sort.{Sort}
 use Rattle.waiting.specs.declared.Sort.TheVariants.{Delay as delays, Protection as protections}
 
@@ -30,120 +32,120 @@ pub record State : Type 0 where
   pub position : ℕ
   -- the number of the next frame
   pub number : ℕ
-  -- the delay message and the APS message that wait
-  pub delay : Waiting
-  pub protection : Waiting
+  -- the messages that wait
+  pub left : Left
 
 -- a sender that has sent nothing
-abbrev pub fresh : State
-fresh = record { rest = []; position = 0; number = 0; delay = nothing_waits; protection = nothing_waits }
+abbrev pub new_state : State
+new_state = record { rest = []; position = 0; number = 0; left = nothing_left }
 
 -- a frame on the line: its number, the calendar entry that it announces, the pairs of slots 1 to 480, and what each client's inlet gave for it
-pub record Frame : Type 0 where
+pub record LineFrame : Type 0 where
   pub number : ℕ
   pub entry : ℕ
   pub pairs : List Pair
   pub given : Lists
 
--- frame m announces the entry of slot m + 1, the one behind m others
-unfoldable pub next_frame_of : Made → State → Lists → Frame
-next_frame_of m s waiting = record {
+-- the frame that is due: number m announces the entry of slot m + 1, before which m others stand
+unfoldable pub frame_due : Made → State → Lists → LineFrame
+frame_due m s waiting = record {
   number = s.number;
   entry = slice_index m.calendar s.number;
-  pairs = pairs_laid m.calendar waiting;
-  given = given_for_frame m.calendar waiting;
+  pairs = pairs_for m.calendar waiting;
+  given = blocks_given m.calendar waiting;
 }
 
 -- the block of a send, the sender after it, and the clients' lists after it
-pub record Sent : Type 0 where
+pub record SendResult : Type 0 where
   pub block : Block
   pub state : State
   pub waiting : Lists
 
 -- a block more of the frame under way
-abbrev pub more_sent : State → Lists → Block → List Block → Sent
-more_sent s waiting block rest = record { block = block; state = record s { rest = rest }; waiting = waiting }
+abbrev pub more_result : State → Lists → Block → List Block → SendResult
+more_result s waiting block rest = record { block = block; state = record s { rest = rest }; waiting = waiting }
 
 -- the start block of a frame, which takes from the lists
-unfoldable pub frame_sent : Made → State → Lists → Sent
-frame_sent m s waiting = record {
+unfoldable pub frame_result : Made → State → Lists → SendResult
+frame_result m s waiting = record {
   block = start_block;
   state = record s {
-    rest = frame_rest s.number (slice_index m.calendar s.number) (pairs_laid m.calendar waiting);
+    rest = frame_rest s.number (slice_index m.calendar s.number) (pairs_for m.calendar waiting);
     position = next_position s.position;
-    number = next_frame s.number;
+    number = next_frame_number s.number;
   };
-  waiting = left_by_frame m.calendar waiting;
+  waiting = lists_after_frame m.calendar waiting;
 }
 
 -- a gap block, with the messages that wait after it
-abbrev pub gap_sent : State → Lists → Block → Waiting → Waiting → Sent
-gap_sent s waiting block delay protection = record {
+abbrev pub gap_result : State → Lists → Block → Waiting → Waiting → SendResult
+gap_result s waiting block delay protection = record {
   block = block;
-  state = record { rest = []; position = next_position s.position; number = s.number; delay = delay; protection = protection };
+  state = record { rest = []; position = next_position s.position; number = s.number; left = record { delay = delay; protection = protection } };
   waiting = waiting;
 }
 
 -- a gap block in which no message goes that was left
-abbrev pub own_sent : State → Lists → Block → Sent
-own_sent s waiting block = gap_sent s waiting block s.delay s.protection
+abbrev pub own_result : State → Lists → Block → SendResult
+own_result s waiting block = gap_result s waiting block s.left.delay s.left.protection
 
 -- what is sent where an item begins; block j of a delay message goes at its own opportunity alone
-unfoldable pub item_sent : Made → State → Lists → Item → Sent
-item_sent m s waiting FrameItem = frame_sent m s waiting
-item_sent m s waiting Idle = own_sent s waiting idle_block
-item_sent m s waiting (Basic mark) = own_sent s waiting (basic_block mark)
-item_sent m s waiting Protection =
-    if waits s.protection then gap_sent s waiting (next_block s.protection) s.delay (one_gone s.protection)
-    else own_sent s waiting idle_block
-item_sent m s waiting (Verification block) = own_sent s waiting (cv_block m.trail block)
-item_sent m s waiting ClientSignal = own_sent s waiting cs_block
-item_sent m s waiting (Delay block) =
-    if waits s.delay && block == s.delay.gone then gap_sent s waiting (next_block s.delay) (one_gone s.delay) s.protection
-    else own_sent s waiting idle_block
-item_sent m s waiting Spare = own_sent s waiting idle_block
+unfoldable pub item_result : Made → State → Lists → Item → SendResult
+item_result m s waiting FrameItem = frame_result m s waiting
+item_result m s waiting Idle = own_result s waiting idle_block
+item_result m s waiting (Basic mark) = own_result s waiting (basic_block mark)
+item_result m s waiting Protection =
+    if waits s.left.protection then gap_result s waiting (next_block s.left.protection) s.left.delay (with_one_gone s.left.protection)
+    else own_result s waiting idle_block
+item_result m s waiting (Verification block) = own_result s waiting (cv_block m.trail block)
+item_result m s waiting ClientSignal = own_result s waiting cs_block
+item_result m s waiting (Delay block) =
+    if block == s.left.delay.gone && waits s.left.delay then gap_result s waiting (next_block s.left.delay) (with_one_gone s.left.delay) s.left.protection
+    else own_result s waiting idle_block
+item_result m s waiting Spare = own_result s waiting idle_block
 
 -- a send, by what is left of the frame under way
-abbrev pub sent_by : Made → State → Lists → List Block → Sent
-sent_by m s waiting [] = item_sent m s waiting (item_at s.position)
-sent_by m s waiting (b ∷ bs) = more_sent s waiting b bs
+abbrev pub send_result_by : Made → State → Lists → List Block → SendResult
+send_result_by m s waiting [] = item_result m s waiting (item_at s.position)
+send_result_by m s waiting (b ∷ bs) = more_result s waiting b bs
 
-abbrev pub sent : Made → State → Lists → Sent
-sent m s waiting = sent_by m s waiting s.rest
+abbrev pub send_result : Made → State → Lists → SendResult
+send_result m s waiting = send_result_by m s waiting s.rest
 
 -- whether a send begins a frame
-abbrev pub begins_frame_by : State → List Block → Bool
-begins_frame_by s [] = is_frame (item_at s.position)
-begins_frame_by s (b ∷ bs) = false
+abbrev pub frame_begins_by : State → List Block → Bool
+frame_begins_by s [] = is_frame (item_at s.position)
+frame_begins_by s (b ∷ bs) = false
 
-abbrev pub begins_frame : State → Bool
-begins_frame s = begins_frame_by s s.rest
+abbrev pub frame_begins : State → Bool
+frame_begins s = frame_begins_by s s.rest
 
--- ---- leaving a message
+-- ---- leaving a message, as of what waits
 abbrev pub waiting_of : State → Sort → Waiting
-waiting_of s delays = s.delay
-waiting_of s protections = s.protection
+waiting_of s sort = waiting_in s.left sort
 
 abbrev pub with_waiting : State → Sort → Waiting → State
-with_waiting s delays d = record s { delay = d }
-with_waiting s protections d = record s { protection = d }
+with_waiting s sort d = record s { left = left_with s.left sort d }
 
--- it is refused where kind and values make none that may be left, and then where one of its sort waits
-abbrev pub answer_to : State → Option Message → Result (Unit {0}) Refusal
-answer_to s None = Err MessageInvalid
-answer_to s (Some x) = if waits (waiting_of s x.sort) then Err MessageWaits else Ok tt
+abbrev pub leave_answer_to : State → Option MessageToSend → Result (Unit {0}) Refusal
+leave_answer_to s message = answer_by s.left message
 
--- the message that is accepted, none where it is refused
-abbrev pub accepted : State → Option Message → Option Message
-accepted s None = None
-accepted s (Some x) = if waits (waiting_of s x.sort) then None else Some x
+abbrev pub accepted_message : State → Option MessageToSend → Option MessageToSend
+accepted_message s message = accepted_by s.left message
 
-abbrev pub with_message : State → Option Message → State
-with_message s None = s
-with_message s (Some x) = with_waiting s x.sort (record { blocks = x.blocks; gone = 0 })
+abbrev pub state_with : State → Option MessageToSend → State
+state_with s message = record s { left = left_with_message s.left message }
 
 abbrev pub leave_answer : State → Option Kind → List ℕ → Result (Unit {0}) Refusal
-leave_answer s kind values = answer_to s (message_of kind values)
+leave_answer s kind values = left_answer s.left kind values
 
-abbrev pub left_with : State → Option Kind → List ℕ → State
-left_with s kind values = with_message s (accepted s (message_of kind values))
+abbrev pub state_after_leave : State → Option Kind → List ℕ → State
+state_after_leave s kind values = record s { left = left_after_leave s.left kind values }
+
+-- a sender as its calls see it
+pub record Sender : Type 0 where
+  pub made : Made
+  pub state : State
+
+abbrev pub new_sender : List ℕ → List ℕ → Sender
+new_sender calendar trail = record { made = record { calendar = calendar; trail = trail }; state = new_state }

@@ -4,4 +4,4 @@
 //! and each message that is left goes out whole, once, in order and on time.
 #![tactic(auto)]
 
-
+pub mod laws;

@@ -21,18 +21,18 @@ sort_of TwoDmr = Some Delay
 sort_of Cs = None
 
 -- a message as it is left
-pub record Message : Type 0 where
+pub record MessageToSend : Type 0 where
   pub sort : Sort
   pub blocks : List Block
 
-unfoldable pub message_of_kind : Kind → List ℕ → Option Message
+unfoldable pub message_of_kind : Kind → List ℕ → Option MessageToSend
 message_of_kind kind values =
     if lawful kind values then option_map (λ sort. record { sort = sort; blocks = message_blocks kind (filled values) }) (sort_of kind) else None
 
 -- the message that a kind and values make, none where they make none that may be left; a code may name no kind
-abbrev pub message_of : Option Kind → List ℕ → Option Message
-message_of None values = None
-message_of (Some kind) values = message_of_kind kind values
+abbrev pub message_to_send : Option Kind → List ℕ → Option MessageToSend
+message_to_send None values = None
+message_to_send (Some kind) values = message_of_kind kind values
 
 -- what waits of a sort: a message's blocks, and how many of them are gone; with all of them gone none waits
 pub record Waiting : Type 0 where
@@ -48,5 +48,5 @@ waits d = nat_lt d.gone (length d.blocks)
 abbrev pub next_block : Waiting → Block
 next_block d = slice_index_or d.blocks d.gone idle_block
 
-abbrev pub one_gone : Waiting → Waiting
-one_gone d = record { blocks = d.blocks; gone = d.gone + 1 }
+abbrev pub with_one_gone : Waiting → Waiting
+with_one_gone d = record { blocks = d.blocks; gone = d.gone + 1 }

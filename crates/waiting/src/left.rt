@@ -3,7 +3,7 @@
 ghost use Rattle.std.specs.Prelude.{◌≡◌, IfOk, Some};
 ghost use Rattle.message.specs.Kinds.{kind_of};
 ghost use Rattle.waiting.specs.Messages.{sort_of};
-ghost use Rattle.waiting.specs.Left.{after_delay, after_protection, delay_block, leave_answer, left_with, nothing_left, protection_block};
+ghost use Rattle.waiting.specs.Left.{left_after_delay, left_after_protection, delay_block, left_answer, left_after_leave, nothing_left, protection_block};
 
 use crate::Sort;
 use crate::message_waiting::MessageWaiting;
@@ -42,8 +42,8 @@ impl LeftMessages {
     /// Leaves a message by its kind and its value bytes, with zeros where the remainder goes. Refused are kinds that may not be left and values
     /// that are not lawful for the kind (10), and then a message of a sort of which one waits (9); what waits is then as before.
     pub fn leave(&mut self, kind: Kind, values: &[u8]) -> Result<(), Refusal>
-        ensures answer { result ≡ leave_answer self.old (Some kind) values.now }
-        ensures left { self.new ≡ left_with self.old (Some kind) values.now }
+        ensures answer { result ≡ left_answer self.old (Some kind) values.now }
+        ensures left { self.new ≡ left_after_leave self.old (Some kind) values.now }
     {
         match sort_of(kind) {
             None => Err(Refusal::MessageInvalid),
@@ -54,8 +54,8 @@ impl LeftMessages {
 
     /// The same by the code of a kind; a code that no kind has is refused with 10.
     pub fn leave_code(&mut self, code: u8, values: &[u8]) -> Result<(), Refusal>
-        ensures answer { result ≡ leave_answer self.old (kind_of code) values.now }
-        ensures left { self.new ≡ left_with self.old (kind_of code) values.now }
+        ensures answer { result ≡ left_answer self.old (kind_of code) values.now }
+        ensures left { self.new ≡ left_after_leave self.old (kind_of code) values.now }
     {
         self.leave(Kind::try_from(code)?, values)
     }
@@ -64,9 +64,9 @@ impl LeftMessages {
     /// that waits.
     pub fn delay_block(&mut self, block: u8) -> Option<Block>
         ensures block { result ≡ delay_block self.old block }
-        ensures after { self.new ≡ after_delay self.old block }
+        ensures after { self.new ≡ left_after_delay self.old block }
     {
-        if self.delay.waits() && self.delay.gone() == block as usize {
+        if self.delay.gone() == block as usize && self.delay.waits() {
             Some(self.delay.next())
         } else {
             None
@@ -76,7 +76,7 @@ impl LeftMessages {
     /// What goes at a protection opportunity: the next block of an APS message, if one waits.
     pub fn protection_block(&mut self) -> Option<Block>
         ensures block { result ≡ protection_block self.old }
-        ensures after { self.new ≡ after_protection self.old }
+        ensures after { self.new ≡ left_after_protection self.old }
     {
         if self.protection.waits() {
             Some(self.protection.next())

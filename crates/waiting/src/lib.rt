@@ -1,5 +1,5 @@
 //! Messages that are left with a sender and wait for their opportunities: a delay message and an APS message (ITU-T G.8312, clause 9.3).
-//! Main promise: leaving is refused exactly as the definition `leave_answer` says, and a message that is left gives its blocks, each once.
+//! Main promise: leaving is refused exactly as the definition `left_answer` says, and a message that is left gives its blocks, each once.
 #![tactic(auto)]
 
 mod left;

@@ -5,7 +5,7 @@ ghost use Rattle.message.specs.Kinds.{blocks_of};
 ghost use Rattle.message.specs.Values.{filled, lawful};
 ghost use Rattle.message.specs.Written.{message_blocks};
 ghost use Rattle.refusal.specs.declared.Refusal.TheVariants.{MessageInvalid, MessageWaits};
-ghost use Rattle.waiting.specs.Messages.{next_block, nothing_waits, one_gone, waits};
+ghost use Rattle.waiting.specs.Messages.{next_block, nothing_waits, with_one_gone, waits};
 
 use block::Block;
 use message::Kind;
@@ -67,7 +67,7 @@ impl MessageWaiting {
     pub(crate) fn next(&mut self) -> Block
         requires { IsTrue (waits self.old) }
         ensures block { result ≡ next_block self.old }
-        ensures after { self.new ≡ one_gone self.old }
+        ensures after { self.new ≡ with_one_gone self.old }
     {
         let block = self.blocks[self.gone];
         self.gone += 1;

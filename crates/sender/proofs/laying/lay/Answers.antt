@@ -4,7 +4,7 @@ use Rattle.std.proofs.lemmas.List.{length-map}
 use Rattle.port.specs.Model.{Lists}
 use Rattle.numbers.specs.Entries.{entry_of}
 use Rattle.calendar.specs.Entries.{entries_of}
-use Rattle.sending.specs.Laid.{left_by_slot, pair_laid}
+use Rattle.sending.specs.Laid.{lists_after_slot, pair_for}
 use Rattle.sender.proofs.SlotsLaid.{all_laid, none_laid, next_laid}
 use Rattle.sender.proofs.laying.lay.Goals as goal
 
@@ -19,8 +19,8 @@ loop-slot-preserved g c =
     (length-map entry_of c.args.calendar.now.entries ∙ c.args.calendar.now.full)
     c.loop-slot.invariant
     (c.in-Some.ensures tt).steps
-    (c.pair_for-pair.ensures.pair ∙ ap (λ (e : ℕ). pair_laid e v) c.client.ensures.value)
-    (c.pair_for-pair.ensures.left ∙ ap (λ (e : ℕ). left_by_slot e v) c.client.ensures.value)
+    (c.pair_for-pair.ensures.pair ∙ ap (λ (e : ℕ). pair_for e v) c.client.ensures.value)
+    (c.pair_for-pair.ensures.left ∙ ap (λ (e : ℕ). lists_after_slot e v) c.client.ensures.value)
     c.write_pair.ensures.written
     c.write_pair.ensures.slots
 
