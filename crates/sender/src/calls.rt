@@ -4,12 +4,10 @@ ghost use Rattle.std.specs.Prelude.{◌≡◌, ◌<◌, [], ◌∷◌, Some, len
 ghost use Rattle.block.specs.Fixed.{start_block};
 ghost use Rattle.calendar.specs.Entries.{entries_of};
 ghost use Rattle.message.specs.Kinds.{kind_of};
-ghost use Rattle.sending.specs.Life.{Lengthens, leave, send};
+ghost use Rattle.sending.specs.Life.{Lengthens, leave, made, send, state_of};
 ghost use Rattle.sending.specs.Messages.{cs_block, cv_block};
-ghost use Rattle.schedule.specs.Cycle.{item_at};
-ghost use Rattle.sender.specs.Seen.{with_frame};
 ghost use Rattle.sending.specs.Laid.{lists_after_frame};
-ghost use Rattle.sending.specs.Sender.{new_state, item_result, leave_answer, state_after_leave, send_result};
+ghost use Rattle.sending.specs.Sender.{frame_result, item_of, leave_answer, new_sender, send_of, state_after_leave, with_state};
 
 use crate::Sender;
 use crate::laying::lay;
@@ -25,9 +23,10 @@ use under_way::outgoing::Outgoing;
 use waiting::LeftMessages;
 
 impl Sender {
-    /// A sender for a calendar, with the 32 trail bytes of its CV message; nothing is send_result, and no message waits.
+    /// A sender for a calendar, with the 32 trail bytes of its CV message; nothing is sent, and no message waits.
     pub fn new(calendar: Calendar, trail: [u8; 32]) -> Sender
-        ensures { result ≡ record { made = record { calendar = entries_of calendar; trail = trail }; state = new_state } }
+        ensures made { result ≡ new_sender (entries_of calendar) trail }
+        ensures life { state_of result.made made ≡ result.state }
     {
         Sender {
             calendar,
@@ -41,10 +40,10 @@ impl Sender {
 
     /// The next block of the path. Where it begins a frame, up to two blocks for each of a client's slots are taken from its list.
     pub fn send<I: Inlet>(&mut self, inlet: &mut I) -> Block
-        ensures block { result ≡ (send_result self.old.made self.old.state (I.waiting inlet.old)).block }
-        ensures sender { self.new ≡ record { made = self.old.made; state = (send_result self.old.made self.old.state (I.waiting inlet.old)).state } }
-        ensures lists { I.waiting inlet.new ≡ (send_result self.old.made self.old.state (I.waiting inlet.old)).waiting }
-        ensures life { Lengthens self.old.made self.old.state (send (I.waiting inlet.old)) self.new.state (result ∷ []) }
+        ensures block { result ≡ (send_of self.old (I.waiting inlet.old)).block }
+        ensures sender { self.new ≡ with_state self.old (send_of self.old (I.waiting inlet.old)).state }
+        ensures lists { I.waiting inlet.new ≡ (send_of self.old (I.waiting inlet.old)).waiting }
+        ensures life { Lengthens self.old (send (I.waiting inlet.old)) self.new (result ∷ []) }
     {
         if let Some(block) = self.frame.next() {
             return block;
@@ -56,8 +55,8 @@ impl Sender {
     /// other kind and values that are not lawful for the kind (10), then a message of a sort of which one waits (9); the sender is then as before.
     pub fn leave(&mut self, kind: Kind, values: &[u8]) -> Result<(), Refusal>
         ensures answer { result ≡ leave_answer self.old.state (Some kind) values.now }
-        ensures sender { self.new ≡ record { made = self.old.made; state = state_after_leave self.old.state (Some kind) values.now } }
-        ensures life { Lengthens self.old.made self.old.state (leave (Some kind) values.now) self.new.state [] }
+        ensures sender { self.new ≡ with_state self.old (state_after_leave self.old.state (Some kind) values.now) }
+        ensures life { Lengthens self.old (leave (Some kind) values.now) self.new [] }
     {
         self.messages.leave(kind, values)
     }
@@ -65,18 +64,19 @@ impl Sender {
     /// The same by the code of a kind; a code that no kind has is refused with 10.
     pub fn leave_code(&mut self, code: u8, values: &[u8]) -> Result<(), Refusal>
         ensures answer { result ≡ leave_answer self.old.state (kind_of code) values.now }
-        ensures sender { self.new ≡ record { made = self.old.made; state = state_after_leave self.old.state (kind_of code) values.now } }
-        ensures life { Lengthens self.old.made self.old.state (leave (kind_of code) values.now) self.new.state [] }
+        ensures sender { self.new ≡ with_state self.old (state_after_leave self.old.state (kind_of code) values.now) }
+        ensures life { Lengthens self.old (leave (kind_of code) values.now) self.new [] }
     {
         self.messages.leave_code(code, values)
     }
 
     // Begins what stands next in the schedule, between frames.
+    #[tactic(auto, unfolding(sending::specs::Sender::item_result, sending::specs::Sender::frame_result))]
     fn begin_item<I: Inlet>(&mut self, inlet: &mut I) -> Block
         requires { self.old.state.rest ≡ [] }
-        ensures block { result ≡ (item_result self.old.made self.old.state (I.waiting inlet.old) (item_at self.old.state.position)).block }
-        ensures sender { self.new ≡ record { made = self.old.made; state = (item_result self.old.made self.old.state (I.waiting inlet.old) (item_at self.old.state.position)).state } }
-        ensures lists { I.waiting inlet.new ≡ (item_result self.old.made self.old.state (I.waiting inlet.old) (item_at self.old.state.position)).waiting }
+        ensures block { result ≡ (item_of self.old (I.waiting inlet.old)).block }
+        ensures sender { self.new ≡ with_state self.old (item_of self.old (I.waiting inlet.old)).state }
+        ensures lists { I.waiting inlet.new ≡ (item_of self.old (I.waiting inlet.old)).waiting }
     {
         let item = self.position.item();
         self.position = self.position.next();
@@ -95,7 +95,7 @@ impl Sender {
     fn begin_frame<I: Inlet>(&mut self, inlet: &mut I) -> Block
         requires { self.old.state.rest ≡ [] }
         ensures block { result ≡ start_block }
-        ensures sender { self.new ≡ record { made = self.old.made; state = with_frame self.old.made self.old.state (I.waiting inlet.old) } }
+        ensures sender { self.new ≡ with_state self.old (record (frame_result self.old.made self.old.state (I.waiting inlet.old)).state { position = self.old.state.position }) }
         ensures lists { I.waiting inlet.new ≡ lists_after_frame self.old.made.calendar (I.waiting inlet.old) }
     {
         lay(&self.calendar, inlet, &mut self.frame);

@@ -23,12 +23,12 @@ pub struct Sender {
 
 impl Model for Sender {
     ghost use Rattle.std.specs.Prelude.{◌≡◌, length};
-    ghost use Rattle.sender.specs.Seen.{Seen};
+    ghost use Rattle.sending.specs.Sender.{Sender as Seen};
     ghost use Rattle.calendar.specs.Entries.{entries_of};
 
     ghost Value = { Seen };
 
-    ghost view = { λ s. record { made = record { calendar = entries_of s.calendar; trail = s.trail }; state = record { rest = s.frame.rest; position = s.position; number = s.number; delay = s.messages.delay; protection = s.messages.protection } } };
+    ghost view = { λ s. record { made = record { calendar = entries_of s.calendar; trail = s.trail }; state = record { rest = s.frame.rest; position = s.position; number = s.number; left = s.messages } } };
 
     ghost invariant = { λ s. length s.trail ≡ 32 };
 }

@@ -149,3 +149,13 @@ pub record Sender : Type 0 where
 
 abbrev pub new_sender : List ℕ → List ℕ → Sender
 new_sender calendar trail = record { made = record { calendar = calendar; trail = trail }; state = new_state }
+
+abbrev pub with_state : Sender → State → Sender
+with_state s state = record s { state = state }
+
+-- a send, and the item that begins between frames
+abbrev pub send_of : Sender → Lists → SendResult
+send_of s waiting = send_result s.made s.state waiting
+
+abbrev pub item_of : Sender → Lists → SendResult
+item_of s waiting = item_result s.made s.state waiting (item_at s.state.position)

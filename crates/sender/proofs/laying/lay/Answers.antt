@@ -16,9 +16,9 @@ loop-slot-preserved g c =
     let v : Lists = g.I.Inlet.waiting c.loop-slot.inlet in
     next_laid (entries_of c.args.calendar.now) (length c.loop-slot.yielded) _ _ v _ c.loop-slot.frame _ c.loop-slot.slot-iterator _ c.in-Some.slot c.pair_for-pair.result
     (length-append c.loop-slot.yielded (c.in-Some.slot ∷ []))
-    (length-map entry_of c.args.calendar.now.entries ∙ c.args.calendar.now.full)
+    (length-map c.args.calendar.now.entries entry_of ∙ c.args.calendar.now.full)
     c.loop-slot.invariant
-    (c.in-Some.ensures tt).steps
+    c.in-Some.ensures.steps
     (c.pair_for-pair.ensures.pair ∙ ap (λ (e : ℕ). pair_for e v) c.client.ensures.value)
     (c.pair_for-pair.ensures.left ∙ ap (λ (e : ℕ). lists_after_slot e v) c.client.ensures.value)
     c.write_pair.ensures.written
@@ -26,8 +26,8 @@ loop-slot-preserved g c =
 
 pub returns-clause-laid : goal.returns-clause-laid
 returns-clause-laid g c =
-    (all_laid _ _ _ _ _ _ (length-map entry_of c.args.calendar.now.entries ∙ c.args.calendar.now.full) c.loop-slot.invariant (c.in-None.ensures tt).steps.0).0
+    (all_laid _ _ _ _ _ _ (length-map c.args.calendar.now.entries entry_of ∙ c.args.calendar.now.full) c.loop-slot.invariant c.in-None.ensures.steps.0).0
 
 pub returns-clause-left : goal.returns-clause-left
 returns-clause-left g c =
-    (all_laid _ _ _ _ _ _ (length-map entry_of c.args.calendar.now.entries ∙ c.args.calendar.now.full) c.loop-slot.invariant (c.in-None.ensures tt).steps.0).1
+    (all_laid _ _ _ _ _ _ (length-map c.args.calendar.now.entries entry_of ∙ c.args.calendar.now.full) c.loop-slot.invariant c.in-None.ensures.steps.0).1
