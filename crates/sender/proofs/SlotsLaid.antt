@@ -8,7 +8,7 @@ use Rattle.port.specs.Model.{Lists}
 use Rattle.numbers.specs.Walk.{numbers_between}
 use Rattle.numbers.proofs.Walks.{numbers_between_next, numbers_between_end}
 use Rattle.under_way.specs.Departure.{Departure}
-use Rattle.under_way.specs.Leaving.{with_pair}
+use Rattle.under_way.specs.Leaving.{slots_answer, with_pair}
 use Rattle.sending.specs.Laid.{lists_after_frame, lists_after_slot, pair_for, pairs_for}
 
 laid_push : (es : List ℕ) (e : ℕ) (w : Lists) → pairs_for (es ++ (e ∷ [])) w ≡ pairs_for es w ++ (pair_for e (lists_after_frame es w) ∷ [])
@@ -45,10 +45,8 @@ head_is n k rest e =
     absurd cc)
     (cases_lt n 480)
 
-between_pairs : (k : ℕ) (p : Pair) (frame : Departure) → frame.rest ≡ [] → with_pair k p frame ≡ record { pairs = set frame.pairs (k - 1) p; rest = [] }
-between_pairs k p frame e =
-    let at : List Block → Departure = λ r. record { pairs = frame.pairs; rest = r } in
-    ap (λ (r : List Block). with_pair k p (at r)) e
+between_pairs : (k : ℕ) (p : Pair) (frame : Departure) → frame.rest ≡ [] → with_pair (slots_answer frame.rest) k p frame ≡ record frame { pairs = set frame.pairs (k - 1) p }
+between_pairs k p frame e = ap (λ (r : List Block). with_pair (slots_answer r) k p frame) e
 
 -- one slot more, the next of the walk
 pub one_laid :
@@ -58,21 +56,21 @@ pub one_laid :
     → to_come ≡ k ∷ rest
     → p ≡ pair_for (get_or entries (k - 1) 0) v
     → u ≡ lists_after_slot (get_or entries (k - 1) 0) v
-    → new ≡ with_pair k p frame
+    → new ≡ with_pair (slots_answer frame.rest) k p frame
     → length new.pairs ≡ 480
     → Laid entries (n + 1) w u new rest
 one_laid entries n w v u frame new to_come rest k p long s e pair left made many =
     let h = head_is n k rest (sym s.walk ∙ e) in
     let at : k - 1 ≡ n = omega (arith, h.1.0) in
-    let new_is : new ≡ record { pairs = set frame.pairs n p; rest = [] } =
-    made ∙ between_pairs k p frame s.between ∙ ap (λ (i : ℕ). record { pairs = set frame.pairs i p; rest = [] }) at in
+    let new_is : new ≡ record frame { pairs = set frame.pairs n p } =
+    made ∙ between_pairs k p frame s.between ∙ ap (λ (i : ℕ). record frame { pairs = set frame.pairs i p }) at in
     let many_pairs : length frame.pairs ≡ 480 =
     sym (length-set frame.pairs n p) ∙ sym (ap (λ (d : Departure). length d.pairs) new_is) ∙ many in
     let entry : get_or entries (k - 1) 0 ≡ get_or entries n 0 = ap (λ (i : ℕ). get_or entries i 0) at in
     record {
       walk = h.1.1;
       within = omega (arith, h.0);
-      between = ap (λ (d : Departure). d.rest) new_is;
+      between = ap (λ (d : Departure). d.rest) new_is ∙ s.between;
       many = inr many;
       laid =
           ap (λ (d : Departure). take (n + 1) d.pairs) new_is
@@ -121,7 +119,7 @@ pub next_laid :
     → to_come ≡ k ∷ rest
     → p ≡ pair_for (get_or entries (k - 1) 0) v
     → u ≡ lists_after_slot (get_or entries (k - 1) 0) v
-    → new ≡ with_pair k p frame
+    → new ≡ with_pair (slots_answer frame.rest) k p frame
     → length new.pairs ≡ 480
     → Laid entries m w u new rest
 next_laid entries n m w v u frame new to_come rest k p count long s e pair left made many =

@@ -8,16 +8,16 @@ use Rattle.message.specs.declared.Kind.TheVariants.{Basic, Aps, Cv, OneDm, TwoDm
 use Rattle.message.specs.Blocks.{read_of}
 use Rattle.waiting.specs.declared.Sort.{Sort}
 use Rattle.waiting.specs.declared.Sort.TheVariants.{Delay as delays, Protection as protections}
-use Rattle.message.specs.Values.{filled, lawful}
+use Rattle.message.specs.Values.{filled_values, lawful}
 use Rattle.message.specs.Written.{message_blocks}
 
 -- block i, 0 to 16, of the CV message over a trail of 32 bytes
 unfoldable pub cv_block : List ℕ → ℕ → Block
-cv_block trail i = slice_index_or (message_blocks Cv (filled (trail ++ 0 ∷ 0 ∷ []))) i idle_block
+cv_block trail i = slice_index_or (message_blocks Cv (filled_values (trail ++ 0 ∷ 0 ∷ []))) i idle_block
 
 -- the CS message, with payload type 11 (two bits)
 unfoldable pub cs_block : Block
-cs_block = slice_index_or (message_blocks Cs (filled (3 ∷ 0 ∷ []))) 0 idle_block
+cs_block = slice_index_or (message_blocks Cs (filled_values (3 ∷ 0 ∷ []))) 0 idle_block
 
 -- whether two sorts are the same
 abbrev pub same_sort : Sort → Sort → Bool

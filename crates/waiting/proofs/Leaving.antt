@@ -4,7 +4,7 @@ use Rattle.std.specs.Option.{option_map}
 use Rattle.refusal.specs.declared.Refusal.{Refusal}
 use Rattle.refusal.specs.declared.Refusal.TheVariants.{MessageInvalid, MessageWaits}
 use Rattle.message.specs.declared.Kind.{Kind}
-use Rattle.message.specs.Values.{filled, lawful}
+use Rattle.message.specs.Values.{filled_values, lawful}
 use Rattle.message.specs.Written.{message_blocks}
 use Rattle.waiting.specs.declared.Sort.{Sort}
 use Rattle.waiting.specs.declared.Sort.TheVariants.{Delay, Protection}
@@ -14,7 +14,7 @@ use Rattle.waiting.specs.Left.{Left, accepted_by, answer_by, left_with_message, 
 -- a lawful message of a kind, by the kind's sort
 abbrev lawful_message : Option Sort → Kind → List ℕ → Option MessageToSend
 lawful_message sort kind values =
-    if lawful kind values then option_map (λ s. record { sort = s; blocks = message_blocks kind (filled values) }) sort else None
+    if lawful kind values then option_map (λ s. record { sort = s; blocks = message_blocks kind (filled_values values) }) sort else None
 
 same_either : {A : Type 0} (b : Bool) (x : A) → (if b then x else x) ≡ x
 same_either true x = refl
@@ -63,14 +63,14 @@ protection_then l true false n = refl
 protection_then l false w n = refl
 
 pub delay_left : (l : Left) (k : Kind) (vs : List ℕ) (d : Waiting) → sort_of k ≡ Some Delay
-    → d ≡ (if lawful k vs then (if waits l.delay then l.delay else record { blocks = message_blocks k (filled vs); gone = 0 }) else l.delay)
+    → d ≡ (if lawful k vs then (if waits l.delay then l.delay else record { blocks = message_blocks k (filled_values vs); gone = 0 }) else l.delay)
     → record { delay = d; protection = l.protection } ≡ after_message l (message_of_kind k vs)
 delay_left l k vs d e h =
     let set : Waiting → Left = λ x. record { delay = x; protection = l.protection } in
     ap set h ∙ delay_then l (lawful k vs) (waits l.delay) _ ∙ sym (ap (after_message l) (message_is k Delay vs e) ∙ left_either l (lawful k vs) (waits l.delay) _ refl)
 
 pub protection_left : (l : Left) (k : Kind) (vs : List ℕ) (d : Waiting) → sort_of k ≡ Some Protection
-    → d ≡ (if lawful k vs then (if waits l.protection then l.protection else record { blocks = message_blocks k (filled vs); gone = 0 }) else l.protection)
+    → d ≡ (if lawful k vs then (if waits l.protection then l.protection else record { blocks = message_blocks k (filled_values vs); gone = 0 }) else l.protection)
     → record { delay = l.delay; protection = d } ≡ after_message l (message_of_kind k vs)
 protection_left l k vs d e h =
     let set : Waiting → Left = λ x. record { delay = l.delay; protection = x } in

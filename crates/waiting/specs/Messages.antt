@@ -5,7 +5,7 @@ use Rattle.block.specs.declared.Block.{Block}
 use Rattle.block.specs.Fixed.{idle_block}
 use Rattle.message.specs.declared.Kind.{Kind}
 use Rattle.message.specs.declared.Kind.TheVariants.{Basic, Aps, Cv, OneDm, TwoDmm, TwoDmr, Cs}
-use Rattle.message.specs.Values.{filled, lawful}
+use Rattle.message.specs.Values.{filled_values, lawful}
 use Rattle.message.specs.Written.{message_blocks}
 use Rattle.waiting.specs.declared.Sort.{Sort}
 use Rattle.waiting.specs.declared.Sort.TheVariants.{Delay, Protection}
@@ -27,7 +27,7 @@ pub record MessageToSend : Type 0 where
 
 unfoldable pub message_of_kind : Kind → List ℕ → Option MessageToSend
 message_of_kind kind values =
-    if lawful kind values then option_map (λ sort. record { sort = sort; blocks = message_blocks kind (filled values) }) (sort_of kind) else None
+    if lawful kind values then option_map (λ sort. record { sort = sort; blocks = message_blocks kind (filled_values values) }) (sort_of kind) else None
 
 -- the message that a kind and values make, none where they make none that may be left; a code may name no kind
 abbrev pub message_to_send : Option Kind → List ℕ → Option MessageToSend

@@ -1,8 +1,8 @@
 //! What waits of one sort of messages.
 
 ghost use Rattle.std.specs.Prelude.{◌≡◌, ◌≤◌, if◌then◌else◌, true, Err, IsTrue, Ok};
-ghost use Rattle.message.specs.Kinds.{blocks_of};
-ghost use Rattle.message.specs.Values.{filled, lawful};
+ghost use Rattle.message.specs.Kinds.{block_count_of};
+ghost use Rattle.message.specs.Values.{filled_values, lawful};
 ghost use Rattle.message.specs.Written.{message_blocks};
 ghost use Rattle.refusal.specs.declared.Refusal.TheVariants.{MessageInvalid, MessageWaits};
 ghost use Rattle.waiting.specs.Messages.{next_block, nothing_waits, with_one_gone, waits};
@@ -77,9 +77,9 @@ impl MessageWaiting {
     // Takes a message in, which waits from its first block on. Refused are values that make none of its kind, and then a message where one
     // waits.
     pub(crate) fn leave(&mut self, kind: Kind, values: &[u8]) -> Result<(), Refusal>
-        requires { blocks_of kind ≤ 13 }
+        requires { block_count_of kind ≤ 13 }
         ensures answer { result ≡ (if lawful kind values.now then (if waits self.old then Err MessageWaits else Ok tt) else Err MessageInvalid) }
-        ensures after { self.new ≡ (if lawful kind values.now then (if waits self.old then self.old else record { blocks = message_blocks kind (filled values.now); gone = 0 }) else self.old) }
+        ensures after { self.new ≡ (if lawful kind values.now then (if waits self.old then self.old else record { blocks = message_blocks kind (filled_values values.now); gone = 0 }) else self.old) }
     {
         if !message::lawful(kind, values) {
             return Err(Refusal::MessageInvalid);
@@ -93,9 +93,9 @@ impl MessageWaiting {
 
     // Writes a lawful message in the place of what is gone.
     fn fill(&mut self, kind: Kind, values: &[u8])
-        requires few { blocks_of kind ≤ 13 }
+        requires few { block_count_of kind ≤ 13 }
         requires lawful { lawful kind values.now ≡ true }
-        ensures { self.new ≡ record { blocks = message_blocks kind (filled values.now); gone = 0 } }
+        ensures { self.new ≡ record { blocks = message_blocks kind (filled_values values.now); gone = 0 } }
     {
         self.gone = 0;
         self.count = message::write(kind, values, &mut self.blocks).unwrap_or(0);
