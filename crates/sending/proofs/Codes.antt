@@ -97,7 +97,7 @@ few_blocks Cs q e = absurd (cc)
 lawful_long : (k : Kind) (vs : List ℕ) → lawful k vs ≡ true → length vs ≡ 2 * block_count_of k
 lawful_long k vs h = eqb-true (length vs) (2 * block_count_of k) (and_parts _ _ (and_parts _ _ h).1).0
 
-length-message : (k : Kind) (vs : List ℕ) → lawful k vs ≡ true → length (message_blocks k (filled_values vs)) ≡ block_count_of k
+pub length-message : (k : Kind) (vs : List ℕ) → lawful k vs ≡ true → length (message_blocks k (filled_values vs)) ≡ block_count_of k
 length-message k vs h =
     length_paired (message_block_at k) (block_count_of k) 0 (filled_values vs)
     (filled_length vs (omega (arith, lawful_long k vs h, one_block k)) ∙ lawful_long k vs h)
