@@ -1,5 +1,5 @@
 -- What is known of messages and their blocks.
-use Rattle.std.proofs.Common.{◌≡◌, ℕ, zero, suc, ◌+◌, ◌*◌, ◌<◌, ◌≤◌, Bool, true, false, cond, eqb, List, [], ◌∷◌, ◌++◌, length, get_or, Some, None, Option, refl, ap, ◌∙◌, inl, inr, arith, subst}
+use Rattle.std.proofs.Common.{◌≡◌, ℕ, zero, suc, ◌+◌, ◌<◌, ◌≤◌, Bool, true, false, cond, eqb, List, [], ◌∷◌, ◌++◌, length, get_or, Some, None, Option, refl, ap, inl, inr, arith, subst}
 use Rattle.std.specs.List.{list_all}
 use Rattle.std.proofs.lemmas.Bool.{eqb-true, and_parts, and_from, both_ways}
 use Rattle.block.specs.declared.Sync.{Sync}
@@ -11,13 +11,13 @@ use Rattle.message.specs.declared.Kind.TheVariants.{Basic, Aps, Cv, OneDm, TwoDm
 use Rattle.message.specs.declared.Mark.{Mark}
 use Rattle.message.specs.declared.Mark.TheVariants.{Start, End}
 use Rattle.message.specs.declared.MessageBlock.{MessageBlock}
-use Rattle.message.specs.Kinds.{blocks_of}
-use Rattle.message.specs.Blocks.{message_block, bytes_say}
-use Rattle.message.specs.Values.{filled, lawful, paired}
-use Rattle.message.specs.Written.{block_at, basic_block, message_blocks}
+use Rattle.message.specs.Kinds.{block_count_of}
+use Rattle.message.specs.Blocks.{message_block, message_in_bytes}
+use Rattle.message.specs.Values.{filled_values, lawful, map_pairs}
+use Rattle.message.specs.Written.{message_block_at, basic_block, message_blocks}
 use Rattle.message.proofs.ReadBacks.{read_back}
-use Rattle.message.proofs.Pairs.{length_paired}
-use Rattle.message.proofs.Laws.{filled_length}
+use Rattle.message.proofs.Writes.{some_blocks}
+use Rattle.message.proofs.Laws.{laws}
 use Rattle.sending.specs.Blocks.{is_start_block, is_idle_block}
 use Rattle.sending.specs.Messages.{is_message, cv_block, cs_block, Sort, delays, protections, sort_of, MessageToSend, message_of_kind, message_to_send}
 use Rattle.sending.specs.LineLaws.{IdleOrMessage}
@@ -29,10 +29,10 @@ message_is : (k : Kind) (s e : Bool) (a b : ℕ) → is_message (message_block k
 unfolding is_message
 message_is k s e a b = ap (λ (o : Option MessageBlock). elim o [ None ↦ false | Some m ↦ true ]) (read_back k s e a b)
 
-all_paired : (k : Kind) (j : ℕ) (us : List ℕ) → all_messages (paired (block_at k) j us) ≡ true
+all_paired : (k : Kind) (j : ℕ) (us : List ℕ) → all_messages (map_pairs (message_block_at k) j us) ≡ true
 all_paired k j [] = refl
 all_paired k j (a ∷ []) = refl
-all_paired k j (a ∷ b ∷ us) = and_from (is_message (block_at k j a b)) (all_messages (paired (block_at k) (suc j) us)) (message_is k (eqb j 0) (eqb (j + 1) (blocks_of k)) a b) (all_paired k (suc j) us)
+all_paired k j (a ∷ b ∷ us) = and_from (is_message (message_block_at k j a b)) (all_messages (map_pairs (message_block_at k) (suc j) us)) (message_is k (eqb j 0) (eqb (j + 1) (block_count_of k)) a b) (all_paired k (suc j) us)
 
 pub basic_message : (mark : Mark) → is_message (basic_block mark) ≡ true
 basic_message Start = message_is Basic true false 0 0
@@ -54,11 +54,11 @@ sort_at (b ∷ bs) (suc i) h = sort_at bs i (and_parts (is_message b) (all_messa
 
 pub cv_sort : (t : List ℕ) (i : ℕ) → IdleOrMessage (cv_block t i)
 unfolding cv_block
-cv_sort t i = sort_at (paired (block_at Cv) 0 (filled (t ++ 0 ∷ 0 ∷ []))) i (all_paired Cv 0 (filled (t ++ 0 ∷ 0 ∷ [])))
+cv_sort t i = sort_at (map_pairs (message_block_at Cv) 0 (filled_values (t ++ 0 ∷ 0 ∷ []))) i (all_paired Cv 0 (filled_values (t ++ 0 ∷ 0 ∷ [])))
 
 pub cs_sort : IdleOrMessage cs_block
 unfolding cs_block
-cs_sort = sort_at (paired (block_at Cs) 0 (filled (3 ∷ 0 ∷ []))) 0 (all_paired Cs 0 (filled (3 ∷ 0 ∷ [])))
+cs_sort = sort_at (map_pairs (message_block_at Cs) 0 (filled_values (3 ∷ 0 ∷ []))) 0 (all_paired Cs 0 (filled_values (3 ∷ 0 ∷ [])))
 
 -- ---- messages that are left
 abbrev pub most_blocks : Sort → ℕ
@@ -70,19 +70,10 @@ pub record IsSound (x : MessageToSend) : Type 0 where
   pub some : 0 < length x.blocks
   pub few : length x.blocks ≤ most_blocks x.sort
 
-one_block : (k : Kind) → 1 ≤ blocks_of k
-one_block Basic = omega arith
-one_block Aps = omega arith
-one_block Cv = omega arith
-one_block OneDm = omega arith
-one_block TwoDmm = omega arith
-one_block TwoDmr = omega arith
-one_block Cs = omega arith
+few_of : (k : Kind) (q r : Sort) → q ≡ r → block_count_of k ≤ most_blocks q → block_count_of k ≤ most_blocks r
+few_of k q r e h = subst (λ (x : Sort). block_count_of k ≤ most_blocks x) e h
 
-few_of : (k : Kind) (q r : Sort) → q ≡ r → blocks_of k ≤ most_blocks q → blocks_of k ≤ most_blocks r
-few_of k q r e h = subst (λ (x : Sort). blocks_of k ≤ most_blocks x) e h
-
-few_blocks : (k : Kind) (q : Sort) → sort_of k ≡ Some q → blocks_of k ≤ most_blocks q
+few_blocks : (k : Kind) (q : Sort) → sort_of k ≡ Some q → block_count_of k ≤ most_blocks q
 few_blocks Basic q e = absurd (cc)
 few_blocks Aps q e = few_of Aps protections q (cc) (omega arith)
 few_blocks Cv q e = absurd (cc)
@@ -91,19 +82,11 @@ few_blocks TwoDmm q e = few_of TwoDmm delays q (cc) (omega arith)
 few_blocks TwoDmr q e = few_of TwoDmr delays q (cc) (omega arith)
 few_blocks Cs q e = absurd (cc)
 
-lawful_long : (k : Kind) (vs : List ℕ) → lawful k vs ≡ true → length vs ≡ 2 * blocks_of k
-lawful_long k vs h = eqb-true (length vs) (2 * blocks_of k) (and_parts _ _ (and_parts _ _ h).1).0
-
-length-message : (k : Kind) (vs : List ℕ) → lawful k vs ≡ true → length (message_blocks k (filled vs)) ≡ blocks_of k
-length-message k vs h =
-    length_paired (block_at k) (blocks_of k) 0 (filled vs)
-    (filled_length vs (omega (arith, lawful_long k vs h, one_block k)) ∙ lawful_long k vs h)
-
-message_sound : (k : Kind) (vs : List ℕ) (q : Sort) → sort_of k ≡ Some q → lawful k vs ≡ true → IsSound (record { sort = q; blocks = message_blocks k (filled vs) })
+message_sound : (k : Kind) (vs : List ℕ) (q : Sort) → sort_of k ≡ Some q → lawful k vs ≡ true → IsSound (record { sort = q; blocks = message_blocks k (filled_values vs) })
 message_sound k vs q e h = record {
-  all = all_paired k 0 (filled vs);
-  some = omega (arith, length-message k vs h, one_block k);
-  few = omega (arith, length-message k vs h, few_blocks k q e);
+  all = all_paired k 0 (filled_values vs);
+  some = omega (arith, laws.block_count k vs h, some_blocks k);
+  few = omega (arith, laws.block_count k vs h, few_blocks k q e);
 }
 
 made_by : (k : Kind) (vs : List ℕ) (x : MessageToSend) → message_of_kind k vs ≡ Some x → IsSound x
@@ -113,7 +96,7 @@ made_by k vs x e = go (lawful k vs) (sort_of k) refl refl
     go : (t : Bool) (o : Option Sort) → lawful k vs ≡ t → sort_of k ≡ o → IsSound x
     go true (Some q) p r =
         let f = rw (p, r) at e in
-        let z : ◌≡◌ {A = MessageToSend} (record { sort = q; blocks = message_blocks k (filled vs) }) x = cc in
+        let z : ◌≡◌ {A = MessageToSend} (record { sort = q; blocks = message_blocks k (filled_values vs) }) x = cc in
         subst IsSound z (message_sound k vs q r p)
     go true None p r = let f = rw (p, r) at e in absurd (cc)
     go false o p r = let f = rw p at e in absurd (cc)
@@ -131,7 +114,7 @@ cond_some : {X : Type 0} (t : Bool) (x m : X) → cond t (Some x) None ≡ Some 
 cond_some true x m e = refl
 cond_some false x m e = absurd (cc)
 
-said_type : (bytes : List ℕ) (m : MessageBlock) → bytes_say bytes ≡ Some m → get_or bytes 0 0 ≡ 0x4B
+said_type : (bytes : List ℕ) (m : MessageBlock) → message_in_bytes bytes ≡ Some m → get_or bytes 0 0 ≡ 0x4B
 said_type bytes m e =
     let c = cond_some _ _ m e in
     eqb-true (get_or bytes 0 0) 0x4B (and_parts _ _ c).0
@@ -143,7 +126,7 @@ no_start : (s : Sync) (bytes : List ℕ) → is_message (of s bytes) ≡ true �
 unfolding is_message is_start_block
 no_start Zeros bytes h = refl
 no_start Control bytes h =
-    let o = option_true (bytes_say bytes) h in
+    let o = option_true (message_in_bytes bytes) h in
     rw (said_type bytes o.0 o.1) refl
 no_start Data bytes h = refl
 no_start Ones bytes h = refl
@@ -152,7 +135,7 @@ no_idle : (s : Sync) (bytes : List ℕ) → is_message (of s bytes) ≡ true →
 unfolding is_message is_idle_block
 no_idle Zeros bytes h = refl
 no_idle Control bytes h =
-    let o = option_true (bytes_say bytes) h in
+    let o = option_true (message_in_bytes bytes) h in
     rw (said_type bytes o.0 o.1) refl
 no_idle Data bytes h = refl
 no_idle Ones bytes h = refl

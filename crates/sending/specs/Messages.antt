@@ -6,16 +6,16 @@ use Rattle.block.specs.Fixed.{idle_block}
 use Rattle.message.specs.declared.Kind.{Kind}
 use Rattle.message.specs.declared.Kind.TheVariants.{Basic, Aps, Cv, OneDm, TwoDmm, TwoDmr, Cs}
 use Rattle.message.specs.Blocks.{read_of}
-use Rattle.message.specs.Values.{filled, lawful}
+use Rattle.message.specs.Values.{filled_values, lawful}
 use Rattle.message.specs.Written.{message_blocks}
 
 -- block i, 0 to 16, of the CV message over a trail of 32 bytes
 unfoldable pub cv_block : List ℕ → ℕ → Block
-cv_block trail i = slice_index_or (message_blocks Cv (filled (trail ++ 0 ∷ 0 ∷ []))) i idle_block
+cv_block trail i = slice_index_or (message_blocks Cv (filled_values (trail ++ 0 ∷ 0 ∷ []))) i idle_block
 
 -- the CS message, with payload type 11 (two bits)
 unfoldable pub cs_block : Block
-cs_block = slice_index_or (message_blocks Cs (filled (3 ∷ 0 ∷ []))) 0 idle_block
+cs_block = slice_index_or (message_blocks Cs (filled_values (3 ∷ 0 ∷ []))) 0 idle_block
 
 -- messages that may be left are of two sorts, and one of each sort may wait: delay messages go at low priority opportunities, APS at protection ones
 pub data Sort : Type 0 where
@@ -43,7 +43,7 @@ pub record MessageToSend : Type 0 where
 
 unfoldable pub message_of_kind : Kind → List ℕ → Option MessageToSend
 message_of_kind kind values =
-    if lawful kind values then option_map (λ sort. record { sort = sort; blocks = message_blocks kind (filled values) }) (sort_of kind) else None
+    if lawful kind values then option_map (λ sort. record { sort = sort; blocks = message_blocks kind (filled_values values) }) (sort_of kind) else None
 
 -- the message that a kind and values make, none where they make none that may be left; a code may name no kind
 abbrev pub message_to_send : Option Kind → List ℕ → Option MessageToSend
