@@ -15,7 +15,7 @@ use Rattle.sending.specs.Blocks.{is_idle_block}
 use Rattle.sending.specs.Messages.{Sort, delays, protections, same_sort, MessageToSend, message_to_send, Waiting, nothing_waits, waits, next_block, with_one_gone}
 use Rattle.sending.specs.Sender.{Made, State, new_state, gap_result, own_result, item_result, send_result_by, frame_due, waiting_of, with_waiting, state_with, accepted_message}
 use Rattle.sending.specs.Life.{Life, LineItem, frame, gap, made, followed, send, leave, state_of, items_begun_by, items}
-use Rattle.sending.specs.MessageLaws.{opportunity_item, is_opportunity, first_start, BlockAt, in_a_row, found_at_item, found_on_line, Left, message_left, messages_left, whole_messages, MessagesOnTime, MessagesSent}
+use Rattle.sending.specs.MessageLaws.{opportunity_item, is_opportunity, first_start, BlockAt, in_a_row, found_at_item, found_on_line, LeftMessage, message_left, messages_left, whole_messages, MessagesOnTime, MessagesSent}
 use Rattle.sending.proofs.Codes.{IsSound, to_send_sound, idle_idle, message_no_idle}
 use Rattle.sending.proofs.Steps.{Begins, a_frame, a_gap, begins}
 use Rattle.sending.proofs.Counts.{Counted, due_item}
@@ -59,8 +59,8 @@ unfolding in_a_row
 row_to_come q n k [] h = tt
 row_to_come q n k (b ∷ bs) h = (h, row_to_come q n (k + 1) bs (let r = rising q k in omega arith))
 
-whole_push : (q : Sort) (xs : List Left) (x : Left) → whole_messages q (xs ++ (x ∷ [])) ≡ whole_messages q xs ++ in_a_row q (first_start q x.after) x.blocks
-whole_push q xs x = sym (flat_map_more (λ (y : Left). in_a_row q (first_start q y.after) y.blocks) [] xs x)
+whole_push : (q : Sort) (xs : List LeftMessage) (x : LeftMessage) → whole_messages q (xs ++ (x ∷ [])) ≡ whole_messages q xs ++ in_a_row q (first_start q x.after) x.blocks
+whole_push q xs x = sym (flat_map_more (λ (y : LeftMessage). in_a_row q (first_start q y.after) y.blocks) [] xs x)
 
 -- one block more of a row
 row_grown : (q : Sort) (k g n : ℕ) (bs : List Block) → g < length bs → opportunity_item q (k + g) ≡ n → in_a_row q k (take g bs) ++ (record { item = n; block = get_or bs g idle_block } ∷ []) ≡ in_a_row q k (take (g + 1) bs)
@@ -142,9 +142,9 @@ module _ (q : Sort) (m : Made) (s : State) (w : Lists) (n : ℕ) (c : Counted s 
       go false false e f = rw (e, f) refl
 
 -- ---- what is kept
-pub record Delivering (q : Sort) (d : Waiting) (n : ℕ) (line : List BlockAt) (lefts : List Left) : Type 0 where
-  pub done : List Left
-  pub last : Left
+pub record Delivering (q : Sort) (d : Waiting) (n : ℕ) (line : List BlockAt) (lefts : List LeftMessage) : Type 0 where
+  pub done : List LeftMessage
+  pub last : LeftMessage
   pub lefts_are : lefts ≡ done ++ cond (waits d) (last ∷ []) []
   pub line_is : line ≡ whole_messages q done ++ cond (waits d) (in_a_row q (first_start q last.after) (take d.gone last.blocks)) []
   pub same : waits d ≡ true → last.blocks ≡ d.blocks
@@ -153,7 +153,7 @@ pub record Delivering (q : Sort) (d : Waiting) (n : ℕ) (line : List BlockAt) (
 gone_low : (d : Waiting) → waits d ≡ true → d.gone < length d.blocks
 gone_low d e = ltb-true d.gone (length d.blocks) e
 
-module _ (q : Sort) (d : Waiting) (n : ℕ) (line : List BlockAt) (lefts : List Left) (u : SoundOf q d) (h : Delivering q d n line lefts) where
+module _ (q : Sort) (d : Waiting) (n : ℕ) (line : List BlockAt) (lefts : List LeftMessage) (u : SoundOf q d) (h : Delivering q d n line lefts) where
   still : (waits d ≡ true → due q (item_at n) d.gone ≡ false) → Delivering q d (n + 1) (line ++ []) lefts
   still f = rw (append-nil line) (record {
     done = h.done;
@@ -234,7 +234,7 @@ waiting_more : (s : State) (rest : List Block) (q : Sort) → waiting_of (record
 waiting_more s rest delays = refl
 waiting_more s rest protections = refl
 
-module _ (q : Sort) (m : Made) (s : State) (w : Lists) (is : List LineItem) (lefts : List Left) (st : Standing m s is) (h : Delivering q (waiting_of s q) (length is) (found_on_line q 0 is) lefts) where
+module _ (q : Sort) (m : Made) (s : State) (w : Lists) (is : List LineItem) (lefts : List LeftMessage) (st : Standing m s is) (h : Delivering q (waiting_of s q) (length is) (found_on_line q 0 is) lefts) where
   After : LineItem → Type 0
   After x = Delivering q (waiting_of (item_result m s w (item_at s.position)).state q) (length (is ++ (x ∷ []))) (found_on_line q 0 (is ++ (x ∷ []))) lefts
 
@@ -260,15 +260,15 @@ module _ (q : Sort) (m : Made) (s : State) (w : Lists) (is : List LineItem) (lef
 new_waits : (x : MessageToSend) → IsSound x → waits (record { blocks = x.blocks; gone = 0 }) ≡ true
 new_waits x h = lt-ltb 0 (length x.blocks) h.some
 
-module _ (q : Sort) (d : Waiting) (n : ℕ) (line : List BlockAt) (lefts : List Left) (h : Delivering q d n line lefts) where
+module _ (q : Sort) (d : Waiting) (n : ℕ) (line : List BlockAt) (lefts : List LeftMessage) (h : Delivering q d n line lefts) where
   left_new : (x : MessageToSend) → IsSound x → waits d ≡ false → Delivering q (record { blocks = x.blocks; gone = 0 }) n line (lefts ++ (record { after = n; blocks = x.blocks } ∷ []))
   left_new x k off =
-      let y : Left = record { after = n; blocks = x.blocks } in
+      let y : LeftMessage = record { after = n; blocks = x.blocks } in
       record {
         done = h.done;
         last = record { after = n; blocks = x.blocks };
         lefts_are =
-            ap (λ (l : List Left). l ++ (record { after = n; blocks = x.blocks } ∷ [])) (h.lefts_are ∙ ap (λ l. h.done ++ l) (cond-false (waits d) _ _ off) ∙ append-nil h.done)
+            ap (λ (l : List LeftMessage). l ++ (record { after = n; blocks = x.blocks } ∷ [])) (h.lefts_are ∙ ap (λ l. h.done ++ l) (cond-false (waits d) _ _ off) ∙ append-nil h.done)
             ∙ ap (λ l. h.done ++ l) (sym (cond-true (waits (record { blocks = x.blocks; gone = 0 })) _ _ (new_waits x k)));
         line_is =
             h.line_is
@@ -291,14 +291,14 @@ not_waiting s (Some y) x e = go (waits (waiting_of s y.sort)) refl
         let z : ◌≡◌ {A = MessageToSend} y x = cc in
         ap (λ (m : MessageToSend). waits (waiting_of s m.sort)) (sym z) ∙ p
 
-left_by_sort : (q r : Sort) (s : State) (n : ℕ) (line : List BlockAt) (lefts : List Left) → Delivering q (waiting_of s q) n line lefts → (x : MessageToSend) → IsSound x → waits (waiting_of s r) ≡ false
+left_by_sort : (q r : Sort) (s : State) (n : ℕ) (line : List BlockAt) (lefts : List LeftMessage) → Delivering q (waiting_of s q) n line lefts → (x : MessageToSend) → IsSound x → waits (waiting_of s r) ≡ false
     → Delivering q (waiting_of (with_waiting s r (record { blocks = x.blocks; gone = 0 })) q) n line (lefts ++ cond (same_sort q r) (record { after = n; blocks = x.blocks } ∷ []) [])
 left_by_sort delays delays s n line lefts h x k off = left_new delays s.delay n line lefts h x k off
 left_by_sort delays protections s n line lefts h x k off = left_same delays s.delay n line lefts h
 left_by_sort protections delays s n line lefts h x k off = left_same protections s.protection n line lefts h
 left_by_sort protections protections s n line lefts h x k off = left_new protections s.protection n line lefts h x k off
 
-module _ (q : Sort) (s : State) (n : ℕ) (line : List BlockAt) (lefts : List Left) (h : Delivering q (waiting_of s q) n line lefts) where
+module _ (q : Sort) (s : State) (n : ℕ) (line : List BlockAt) (lefts : List LeftMessage) (h : Delivering q (waiting_of s q) n line lefts) where
   leave_some : (x : MessageToSend) → IsSound x → waits (waiting_of s x.sort) ≡ false → Delivering q (waiting_of (state_with s (Some x)) q) n line (lefts ++ message_left q n (Some x))
   leave_some x k off = left_by_sort q x.sort s n line lefts h x k off
 
@@ -329,7 +329,7 @@ delivering q m (followed l (leave k vs)) = rw (append-nil (items m l)) (leave_st
 pub messages_sent : MessagesSent
 messages_sent q m l = let h = delivering q m l in (h.done, (h.last, (h.lefts_are, h.line_is)))
 
-module _ (q : Sort) (d : Waiting) (n : ℕ) (line : List BlockAt) (lefts : List Left) (u : SoundOf q d) (h : Delivering q d n line lefts) where
+module _ (q : Sort) (d : Waiting) (n : ℕ) (line : List BlockAt) (lefts : List LeftMessage) (u : SoundOf q d) (h : Delivering q d n line lefts) where
   abbrev OnTime : Type 0
   OnTime = (rest : List BlockAt) × ((line ++ rest ≡ whole_messages q lefts) × All (λ (x : BlockAt). n ≤ x.item) rest)
 

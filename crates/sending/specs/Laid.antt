@@ -12,7 +12,8 @@ use Rattle.calendar.specs.Share.{slot_count}
 abbrev pub lawful_pair : Pair → Pair
 lawful_pair p = record { first = lawful_or_error p.first; second = lawful_or_error p.second }
 
--- a slot's pair, by its entry in the calendar: two error blocks where it is empty, else its client's first two blocks, an idle for each that is missing
+-- a slot's pair, by its entry in the calendar: two error blocks where it is empty, else its client's first two blocks, with an idle for each that
+-- is missing
 abbrev pub pair_for : ℕ → Lists → Pair
 pair_for entry waiting =
     if entry == 0 then record { first = error_block; second = error_block } else lawful_pair (first_pair idle_block (waiting entry))

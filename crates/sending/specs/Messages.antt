@@ -17,7 +17,8 @@ cv_block trail i = slice_index_or (message_blocks Cv (filled_values (trail ++ 0 
 unfoldable pub cs_block : Block
 cs_block = slice_index_or (message_blocks Cs (filled_values (3 ∷ 0 ∷ []))) 0 idle_block
 
--- messages that may be left are of two sorts, and one of each sort may wait: delay messages go at low priority opportunities, APS at protection ones
+-- messages that may be left are of two sorts, and one of each sort may wait: delay messages go at low priority opportunities, APS messages at
+-- protection opportunities
 pub data Sort : Type 0 where
   delays protections : Sort
 
