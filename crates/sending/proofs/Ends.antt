@@ -2,7 +2,7 @@
 use Rattle.std.proofs.Common.{◌≡◌, ℕ, ◌+◌, ◌<◌, ◌≤◌, Bool, true, false, cond, List, [], ◌∷◌, ◌++◌, length, sym, refl, ap, ◌∙◌, append_assoc, append-nil, arith, length-append}
 use Rattle.std.proofs.lemmas.List.{nil_from_length, same_from_push}
 use Rattle.std.proofs.lemmas.Bool.{ltb-true, cond-true, cond-false}
-use Rattle.sending.specs.Messages.{Sort, waits, Waiting}
+use Rattle.sending.specs.Messages.{Sort, waits, WaitingMessage}
 use Rattle.sending.specs.Sender.{Made, waiting_of}
 use Rattle.sending.specs.Life.{Call, Life, followed, state_of, items, life_and}
 use Rattle.sending.specs.MessageLaws.{opportunity_item, first_start, longest_wait, LeftMessage, left_by_call, messages_left, MessagesEnd, BlockAt, found_on_line}
@@ -22,7 +22,7 @@ left_more q m (c ∷ cs) l =
     (left_by_call q (state_of m l) (length (items m l)) c ++ h.0, h.1 ∙ append_assoc (messages_left q m l) (left_by_call q (state_of m l) (length (items m l)) c) h.0)
 
 -- two moments at which the same message waits are near
-module _ (q : Sort) (d e : Waiting) (n k : ℕ) (line row : List BlockAt) (lefts : List LeftMessage) (u : SoundOf q d) (v : SoundOf q e) (a : Delivering q d n line lefts) (b : Delivering q e k row lefts) where
+module _ (q : Sort) (d e : WaitingMessage) (n k : ℕ) (line row : List BlockAt) (lefts : List LeftMessage) (u : SoundOf q d) (v : SoundOf q e) (a : Delivering q d n line lefts) (b : Delivering q e k row lefts) where
   near : waits d ≡ true → waits e ≡ true → k < n + longest_wait q
   near f g =
       let x : a.done ++ (a.last ∷ []) ≡ b.done ++ (b.last ∷ []) =

@@ -10,14 +10,14 @@ use Rattle.schedule.specs.declared.Item.TheVariants.{Frame, Idle, Basic, Protect
 use Rattle.schedule.specs.Cycle.{item_at, low_priority_item, protection_item, round_items}
 use Rattle.sending.specs.Blocks.{is_idle_block}
 use Rattle.sending.specs.Messages.{Sort, delays, protections, same_sort, MessageToSend, message_to_send, waits}
-use Rattle.sending.specs.Sender.{Made, State, waiting_of, accepted_message, leave_answer, state_after_leave}
+use Rattle.sending.specs.Sender.{Made, SenderState, waiting_of, accepted_message, leave_answer, state_after_leave}
 use Rattle.sending.specs.Life.{Call, Life, LineItem, frame, gap, made, followed, send, leave, state_of, items, life_and}
 use Rattle.sending.specs.LineLaws.{Each}
 
 -- a refused leaving leaves the sender as it was
 abbrev pub RefusedKeeps : Type 0
 RefusedKeeps =
-    (s : State) (kind : Option Kind) (values : List ℕ) (cause : Refusal)
+    (s : SenderState) (kind : Option Kind) (values : List ℕ) (cause : Refusal)
     → leave_answer s kind values ≡ Err cause
     → state_after_leave s kind values ≡ s
 
@@ -91,7 +91,7 @@ abbrev pub message_left : Sort → ℕ → Option MessageToSend → List LeftMes
 message_left sort n None = []
 message_left sort n (Some x) = if same_sort sort x.sort then record { after = n; blocks = x.blocks } ∷ [] else []
 
-abbrev pub left_by_call : Sort → State → ℕ → Call → List LeftMessage
+abbrev pub left_by_call : Sort → SenderState → ℕ → Call → List LeftMessage
 left_by_call sort s n (send waiting) = []
 left_by_call sort s n (leave kind values) = message_left sort n (accepted_message s (message_to_send kind values))
 
