@@ -11,7 +11,7 @@ use Rattle.overhead.specs.Format.{Fields}
 use Rattle.whole_frame.specs.Meaning.{frame_written}
 use Rattle.sending.specs.Frames.{fields, frame_rest}
 use Rattle.sending.specs.Laid.{pairs_for}
-use Rattle.sending.specs.Sender.{Made, State, Sender, frame_result, state_after_leave, with_state}
+use Rattle.sending.specs.Sender.{Made, SenderState, Sender, frame_result, state_after_leave, with_state}
 use Rattle.sending.specs.Life.{Lengthens, leave}
 use Rattle.sending.proofs.Lives.{lengthens}
 use Rattle.sending.proofs.Frames.{frame_opens}
