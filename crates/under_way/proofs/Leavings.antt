@@ -8,7 +8,7 @@ use Rattle.block.specs.declared.Pair.{Pair}
 use Rattle.block.specs.Whole.{Bytes}
 use Rattle.overhead.specs.Format.{Fields, overhead_bytes}
 use Rattle.payload.specs.Payloads.{pairs_of}
-use Rattle.payload.proofs.Slots.{unpacking_undone}
+use Rattle.payload.proofs.Slots.{pairs_length, unpacking_undone}
 use Rattle.frame.specs.Frames.{frame_block, frame_of}
 use Rattle.frame.specs.Places.{place_behind}
 use Rattle.frame.proofs.Frames.{frame_length}
@@ -94,3 +94,7 @@ lent o w n h = ap (of_pairs (pairs_of w)) (all_gone (o ++ w) n h)
 
 pub none_while : (o p : List ℕ) (n : ℕ) (d : Departure) → n < 992 → departure o p n ≡ d → d.rest ≡ [] → ⊥
 none_while o p n d h e z = let f : [] ≡ frame_block (o ++ p) (n + 1) ∷ drop (n + 1) (frame_of (o ++ p)) = sym z ∙ some_left o p n d h e in cc
+
+-- there is a pair for each slot
+pub slots_there : (o p : List ℕ) (n : ℕ) (d : Departure) → departure o p n ≡ d → length d.pairs ≡ 480
+slots_there o p n d e = ap (λ (x : Departure). length x.pairs) (sym e) ∙ pairs_length p

@@ -1,7 +1,7 @@
 //! The frame that a sender is sending. In contracts it is the pairs in its slots and the blocks that are still to send.
-ghost use Rattle.std.specs.Prelude.{◌≡◌, [], drop, replicate, slice_get, IsSome, ◌↔◌, IfSome};
+ghost use Rattle.std.specs.Prelude.{◌≡◌, [], drop, replicate, length, slice_get, IsSome, ◌↔◌, IfSome};
 ghost use Rattle.block.specs.Whole.{Bytes, WholePair};
-ghost use Rattle.numbers.specs.Range.{IsOneTo480};
+ghost use Rattle.numbers.specs.Range.{IsOneTo480, slots};
 ghost use Rattle.overhead.specs.Format.{fields_of};
 ghost use Rattle.overhead.specs.Laws.{IsOverhead};
 ghost use Rattle.payload.specs.Payloads.{pairs_of};
@@ -60,10 +60,11 @@ impl Outgoing {
     }
 
     /// Writes a pair into a slot of the next frame; refused while a frame is being sent.
-    #[tactic(auto, using(crate::proofs::Leavings::sending_answer, crate::proofs::Leavings::sending_kept, crate::proofs::Leavings::free_answer, crate::proofs::Leavings::pair_written))]
+    #[tactic(auto, using(crate::proofs::Leavings::sending_answer, crate::proofs::Leavings::sending_kept, crate::proofs::Leavings::free_answer, crate::proofs::Leavings::pair_written, crate::proofs::Leavings::slots_there, payload::proofs::Slots::pairs_length))]
     pub fn write_pair(&mut self, slot: SlotNumber, pair: Pair) -> Result<(), SlotsRefusal>
         ensures answer { result ≡ slots_answer self.old.rest }
         ensures written { self.new ≡ with_pair (slots_answer self.old.rest) slot pair self.old }
+        ensures slots { length self.new.pairs ≡ slots }
     {
         if self.gone < 992 {
             return Err(SlotsRefusal::StillSending);

@@ -1,0 +1,3 @@
+pub mod SlotsLaid
+pub mod Behind
+pub mod Own
