@@ -19,8 +19,8 @@ const FIRST_TIME: [u8; 10] = [0x37, 0x9A, 0x05, 0x51, 0x91, 0x52, 0x35, 0x98, 0,
 
 const SECOND_TIME: [u8; 10] = [0x35, 0x98, 0x14, 0x75, 0x91, 0x50, 0x35, 0x98, 0, 0];
 
-// More blocks than a sender sends in two rounds of 64 low priority opportunities: 128 cycles of 33 frames, of 992 blocks each, and 32 blocks
-// between them. A response that is left goes within them.
+// As many blocks as a sender sends in one round of 64 low priority opportunities: 128 cycles of 33 frames, of 992 blocks each, with 32 blocks
+// between them. The next block of a response that is left goes within them.
 const SENDS: u32 = 128 * (33 * 992 + 32);
 
 // The blocks of a message, and idles behind them, since `write` takes lent places; `give` ends at the first block that is no message.
