@@ -75,10 +75,6 @@ blocks_up_to zero l = []
 blocks_up_to (suc n) [] = idle_block ∷ blocks_up_to n []
 blocks_up_to (suc n) (b ∷ l) = lawful_or_error b ∷ blocks_up_to n l
 
-take_none : (k : ℕ) → take {A = Block} k [] ≡ []
-take_none zero = refl
-take_none (suc k) = refl
-
 up_to_none : (n : ℕ) → blocks_up_to n [] ≡ replicate n idle_block
 unfolding blocks_up_to
 up_to_none zero = refl
