@@ -1,5 +1,5 @@
 -- Blocks as the laws of a sender tell them apart.
-use Rattle.std.specs.Prelude.{Bool, true, false, if◌then◌else◌, List, [], ◌∷◌}
+use Rattle.std.specs.Prelude.{Bool, if◌then◌else◌, List, [], ◌∷◌}
 use Rattle.block.specs.declared.Block.{Block}
 use Rattle.block.specs.Classes.{class_of, is_idle, is_start}
 

@@ -1,5 +1,5 @@
 -- Which block goes on with the frame that comes.
-use Rattle.std.specs.Prelude.{◌+◌, Bool, true, false, if◌then◌else◌, List, [], ◌∷◌, ◌++◌, length, Some, None, Option, Ok, Err, Result, ◌==◌}
+use Rattle.std.specs.Prelude.{◌+◌, Bool, if◌then◌else◌, List, [], ◌∷◌, ◌++◌, length, Some, None, Option, Ok, Err, Result, ◌==◌}
 use Rattle.block.specs.declared.Block.{Block}
 use Rattle.block.specs.declared.Class.{Class}
 use Rattle.block.specs.Classes.{class_of, is_data, is_end_of}
