@@ -9,7 +9,7 @@ use Rattle.block.specs.declared.Class.{Class}
 use Rattle.block.specs.declared.Class.TheVariants.{Data, Idle, Characters, OrderedSet, Start, End, Unlawful}
 use Rattle.block.specs.Fixed.{error_block, idle_bytes}
 
--- the types of the ends that carry 0 to 7 bytes
+-- the types of the ends, by how many bytes each carries
 abbrev pub end_types : List ℕ
 end_types = 0x87 ∷ 0x99 ∷ 0xAA ∷ 0xB4 ∷ 0xCC ∷ 0xD2 ∷ 0xE1 ∷ 0xFF ∷ []
 
@@ -46,6 +46,24 @@ is_lawful Start = true
 is_lawful (End n) = true
 is_lawful Unlawful = false
 
+abbrev pub is_data : Class → Bool
+is_data Data = true
+is_data Idle = false
+is_data Characters = false
+is_data OrderedSet = false
+is_data Start = false
+is_data (End n) = false
+is_data Unlawful = false
+
+abbrev pub is_idle : Class → Bool
+is_idle Data = false
+is_idle Idle = true
+is_idle Characters = false
+is_idle OrderedSet = false
+is_idle Start = false
+is_idle (End n) = false
+is_idle Unlawful = false
+
 abbrev pub is_start : Class → Bool
 is_start Data = false
 is_start Idle = false
@@ -63,6 +81,16 @@ is_end OrderedSet = false
 is_end Start = false
 is_end (End n) = true
 is_end Unlawful = false
+
+-- an end that carries so many bytes
+abbrev pub is_end_of : ℕ → Class → Bool
+is_end_of bytes Data = false
+is_end_of bytes Idle = false
+is_end_of bytes Characters = false
+is_end_of bytes OrderedSet = false
+is_end_of bytes Start = false
+is_end_of bytes (End n) = n == bytes
+is_end_of bytes Unlawful = false
 
 -- the block itself, or the error block in place of an unlawful one
 abbrev pub lawful_or_error : Block → Block

@@ -12,7 +12,7 @@ ghost use Rattle.block.specs.Told.{ClassesTold};
 ghost use Rattle.std.specs.Cmp.Rules.{comparing};
 ghost use Rattle.std.proofs.Common.{rules};
 
-/// The types of the ends that carry 0 to 7 bytes.
+/// The types of the ends, by how many bytes each carries.
 pub const END_TYPES: [u8; 8] = [0x87, 0x99, 0xAA, 0xB4, 0xCC, 0xD2, 0xE1, 0xFF];
 
 /// The two sync bits, named by what they say; the first bit sent stands first.
@@ -179,7 +179,9 @@ impl Block {
     }
 }
 
-// The class of a control block, by its type.
+// The class of a control block, by its type. Never inlined, so that `Block::class` stays small enough to be inlined itself, where a data
+// block is told by its sync bits alone.
+#[inline(never)]
 fn control_class(bytes: &[u8; 8]) -> Class
     ensures { result ≡ control_class bytes.now }
 {

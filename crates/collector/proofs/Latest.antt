@@ -16,7 +16,7 @@ use Rattle.collector.specs.Outcomes.{next_outcome, same_kind}
 use Rattle.collector.specs.Step.{after, after_basic, after_kind, after_part, basic_content, found_of, with_collection, is_aps, with_last_whole, new_state, one_mark, report_basic, report_kind, report_of, report_part, after_outcome, with_no_question}
 use Rattle.collector.specs.Runs.{Arrives, Call, IsLatest, IsWaiting, LatestWhole, MakesWhole, NoQuestion, NoneWhole, collect, collect_last, by_basic, by_blocks, give, never_collects, no_call, own, reports, state_after}
 use Rattle.collector.proofs.SameKinds.{one_kind, same_true}
-use Rattle.collector.proofs.Sounds.{last_kept_same, last_kept_other, sound_new, sound_run}
+use Rattle.collector.proofs.Sounds.{last_kept_same, last_kept_other, places_kept}
 use Rattle.collector.proofs.Collections.{coll, run_append}
 use Rattle.collector.proofs.Wholes.{content, whole_found}
 use Rattle.collector.proofs.Only.{Makes, arrives, came, next_makes}
@@ -96,7 +96,7 @@ effect_kind h b k s (Some l) e z r = go (same_kind l Basic) refl
     go false f = effect_part h b k l s (report_part l s b).broken (next_outcome l (coll (is_aps l) s) b) e f z (makes f)
 
 effect : (h : List Call) (b : MessageBlock) (k : Kind) → Effect h b k (state_after new_state h) (report_of (state_after new_state h) b) (after (state_after new_state h) b)
-effect h b k = effect_kind h b k (state_after new_state h) b.kind refl (sound_run new_state h sound_new).places refl
+effect h b k = effect_kind h b k (state_after new_state h) b.kind refl (places_kept new_state h refl) refl
 
 -- a message is reported whole exactly where its last block makes it so
 found_made : (h : List Call) (b : MessageBlock) (k : Kind) (s t : State) (r : Report) → Effect h b k s r t → r.found ≡ Ok (Some k) → (us : List ℕ) × MakesWhole h b k us
@@ -108,7 +108,7 @@ made_found h b k us (by_basic d e m v) =
     ap (λ (x : Option Kind). (report_kind x (state_after new_state h) b).found) e
     ∙ ap (λ (t : Bool). (cond {A = Report} t (record { broken = false; found = Ok (Some Basic) }) (record { broken = true; found = Ok None })).found) m
     ∙ ap {B = Result (Option Kind) BlockError} (λ (x : Kind). Ok (Some x)) (sym d)
-made_found h b k us (by_blocks C) = (whole_found new_state h b k us sound_new C).found
+made_found h b k us (by_blocks C) = (whole_found new_state h b k us refl C).found
 
 pub whole_exactly : (h : List Call) (b : MessageBlock) (k : Kind)
     → ((report_of (state_after new_state h) b).found ≡ Ok (Some k)) ↔ ((us : List ℕ) × MakesWhole h b k us)

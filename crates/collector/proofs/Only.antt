@@ -23,7 +23,6 @@ use Rattle.collector.specs.Laws.{FoundWhole}
 use Rattle.collector.proofs.Extends.{last_test}
 use Rattle.collector.proofs.Collections.{coll, advance, advance_kind, advance_other, coll_kind, own_push, own_asked}
 use Rattle.collector.proofs.SameKinds.{one_kind}
-use Rattle.collector.proofs.Sounds.{sound_new}
 use Rattle.collector.proofs.Wholes.{part_at, content, parts_push, whole_found}
 
 -- some blocks end with the first i blocks of a message
@@ -200,4 +199,4 @@ pub only_whole : (before : List Call) (b : MessageBlock) (k : Kind)
     → (us : List ℕ) × Completes before b k us × FoundWhole new_state before b k us
 only_whole before b k w h =
     let c = found_kind before b k b.kind refl w h in
-    (c.0, c.1, whole_found new_state before b k c.0 sound_new c.1)
+    (c.0, c.1, whole_found new_state before b k c.0 refl c.1)

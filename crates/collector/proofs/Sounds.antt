@@ -96,6 +96,30 @@ last_kept_same k u s e h =
 pub last_kept_other : (k : Kind) (u : Content) (s : State) → (k ≡ u.kind → ⊥) → last_of k (with_last_whole u s) ≡ last_of k s
 last_kept_other k u s n = get_or-set_other s.kept (place_of u.kind) (place_of k) (Some u) None (λ e. n (one_place k u.kind e))
 
+-- a place is never lost
+places_settled : (k : Kind) (o : Outcome) (s : State) → length s.kept ≡ 7 → length (after_outcome k o s).kept ≡ 7
+places_settled k Broken s h = h
+places_settled k (Incomplete u) s h = h
+places_settled k Corrupt s h = h
+places_settled k (Whole u) s h = length-set s.kept (place_of u.kind) (Some u) ∙ h
+
+places_basic : (s : State) (b : MessageBlock) (t : Bool) → length s.kept ≡ 7 → length (cond t (with_last_whole (basic_content b) s) s).kept ≡ 7
+places_basic s b true h = length-set s.kept 0 (Some (basic_content b)) ∙ h
+places_basic s b false h = h
+
+places_kind : (o : Option Kind) (s : State) (b : MessageBlock) → length s.kept ≡ 7 → length (after_kind o s b).kept ≡ 7
+places_kind None s b h = h
+places_kind (Some k) s b h = go (same_kind k Basic)
+  where
+    go : (t : Bool) → length (cond t (after_basic s b) (after_part k s b)).kept ≡ 7
+    go true = places_basic s b (one_mark b) h
+    go false = places_settled k (next_outcome k (collection_of k s) b) s h
+
+pub places_kept : (s : State) (cs : List Call) → length s.kept ≡ 7 → length (state_after s cs).kept ≡ 7
+places_kept s [] h = h
+places_kept s (give b ∷ cs) h = places_kept (after s b) cs (places_kind b.kind s b h)
+places_kept s (collect ∷ cs) h = places_kept (with_no_question s) cs h
+
 -- ---- collectors
 
 pub sound_new : Sound new_state

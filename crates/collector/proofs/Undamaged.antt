@@ -59,10 +59,6 @@ two_more us i h =
     ∙ ap (λ (l : List ℕ). get_or us (2 * i) 0 ∷ l) (drop_more us (2 * i + 1) 0 h)
     ∙ ap (λ (n : ℕ). get_or us (2 * i) 0 ∷ get_or us (2 * i + 1) 0 ∷ drop n us) (let e : 2 * i + 1 + 1 ≡ 2 * (i + 1) = omega arith in e)
 
-and_none : (t : Bool) → (t && false) ≡ false
-and_none true = refl
-and_none false = refl
-
 -- a start mark stands on a message's first block alone
 no_start : (c : Option Content) (u : Content) (i : ℕ) → (i ≡ 0 → c ≡ None) → (eqb i 0 && is_some c) ≡ false
 no_start c u i p = go (eqb i 0) refl

@@ -19,7 +19,7 @@ use Rattle.message.proofs.Pairs.{paired_push, take_two}
 use Rattle.message.proofs.Writes.{lawful_length, some_blocks}
 use Rattle.collector.specs.declared.BlockError.TheVariants.{WrongRemainder}
 use Rattle.collector.specs.Content.{Content}
-use Rattle.collector.specs.State.{State, Sound, last_of, place_of}
+use Rattle.collector.specs.State.{State, last_of, place_of}
 use Rattle.collector.specs.declared.assembly.Outcome.{Outcome}
 use Rattle.collector.specs.declared.assembly.Outcome.TheVariants.{Broken, Corrupt, Whole}
 use Rattle.collector.specs.Outcomes.{continued_outcome, extended_outcome, marked_outcome, next_outcome, same_kind, tested_outcome, unfinished_of}
@@ -30,7 +30,7 @@ use Rattle.collector.proofs.Sizes.{few_blocks}
 use Rattle.collector.proofs.Extends.{last_test}
 use Rattle.collector.proofs.SameKinds.{same_true}
 use Rattle.collector.proofs.Collections.{coll, advance, advances, coll_run, advances_append, run_append, own_push}
-use Rattle.collector.proofs.Sounds.{place_below, sound_run}
+use Rattle.collector.proofs.Sounds.{place_below, places_kept}
 
 -- the block at place i of a message
 abbrev pub part_at : Kind → ℕ → ℕ → ℕ → MessageBlock
@@ -86,7 +86,7 @@ pub not_basic : (g : Bool) (k : Kind) → goes_kind g (Some k) ≡ true → same
 not_basic g k e = not-true (same_kind k Basic) (and_parts (not (same_kind k Basic)) _ e).0
 
 -- a block that makes a message whole
-pub whole_part : (s : State) (b : MessageBlock) (k : Kind) (us : List ℕ) → Sound s → b.kind ≡ Some k → same_kind k Basic ≡ false
+pub whole_part : (s : State) (b : MessageBlock) (k : Kind) (us : List ℕ) → length s.kept ≡ 7 → b.kind ≡ Some k → same_kind k Basic ≡ false
     → next_outcome k (coll (is_aps k) s) b ≡ Whole (content k us)
     → ((report_of s b).found ≡ Ok (Some k)) × (last_of k (after s b) ≡ Some (content k us)) × (k ≡ TwoDmm → (after s b).question ≡ Some (take 8 us))
 whole_part s b k us h e f o = (
@@ -96,7 +96,7 @@ whole_part s b k us h e f o = (
   ap (λ (x : Option Kind). last_of k (after_kind x s b)) e
       ∙ ap (λ (t : Bool). last_of k (cond t (after_basic s b) (after_part k s b))) f
       ∙ ap (λ (x : Outcome). last_of k (after_outcome k x s)) o
-      ∙ get_or-set_same s.kept (place_of k) (Some (content k us)) None (omega (arith, place_below k, h.places)),
+      ∙ get_or-set_same s.kept (place_of k) (Some (content k us)) None (omega (arith, place_below k, h)),
   λ d. ap (λ (x : Option Kind). (after_kind x s b).question) e
       ∙ ap (λ (t : Bool). (cond t (after_basic s b) (after_part k s b)).question) f
       ∙ ap (λ (x : Outcome). (after_outcome k x s).question) o
@@ -143,12 +143,12 @@ arrived s before b k us h =
     }
 
 pub whole_found : (s : State) (before : List Call) (b : MessageBlock) (k : Kind) (us : List ℕ)
-    → Sound s → Completes before b k us → FoundWhole s before b k us
-whole_found s before b k us sized h =
+    → length s.kept ≡ 7 → Completes before b k us → FoundWhole s before b k us
+whole_found s before b k us places h =
     let T : Tested (state_after s before) b k us = arrived s before b k us h.0 in
     let next : next_outcome k (coll (is_aps k) (state_after s before)) b ≡ Whole (content k us)
     = T.next ∙ ap (λ (t : Bool). cond t (Whole (content k us)) Corrupt) (eq-eqb (crc12 (bits us)) 0 h.1) in
-    let both = whole_part (state_after s before) b k us (sound_run s before sized) T.kind T.other next in
+    let both = whole_part (state_after s before) b k us (places_kept s before places) T.kind T.other next in
     let at : state_after s (before ++ give b ∷ []) ≡ after (state_after s before) b = run_append s before (give b ∷ []) in
     record {
       found = both.0;
@@ -178,13 +178,13 @@ change_found s before b k us ws h l e lo hi =
     (omega (arith, length_bits us, l, h.long, few_blocks k)) e z lo hi)
 
 pub written_found : (s : State) (before : List Call) (front : List MessageBlock) (b : MessageBlock) (k : Kind) (vs : List ℕ)
-    → Sound s → lawful k vs ≡ true → goes_to (is_aps k) b ≡ true
+    → length s.kept ≡ 7 → lawful k vs ≡ true → goes_to (is_aps k) b ≡ true
     → own (is_aps k) (before ++ give b ∷ []) ≡ front ++ reads_of (message_blocks k (filled_values vs))
     → FoundWhole s before b k (filled_values vs)
-written_found s before front b k vs sized law goes e =
+written_found s before front b k vs places law goes e =
     let len : length vs ≡ 2 * block_count_of k = lawful_length k vs law in
     let two : 2 ≤ length vs = omega (arith, some_blocks k) in
-    whole_found s before b k (filled_values vs) sized (
+    whole_found s before b k (filled_values vs) places (
       record {
         front = front;
         goes = goes;

@@ -24,15 +24,17 @@ pub record FoundWhole (s : State) (before : List Call) (b : MessageBlock) (k : K
 
 -- What is reported whole: exactly the messages whose blocks came in a row for their collection.
 pub record CollectorLaws : Type 0 where
+  -- a collector never loses a place
+  pub places_kept : (s : State) (cs : List Call) → length s.kept ≡ 7 → length (state_after s cs).kept ≡ 7
   -- what holds of every collector still holds after some calls
   pub sound : (s : State) (cs : List Call) → Sound s → Sound (state_after s cs)
-  -- In whatever sound state the blocks begin, and with any blocks of basic messages, unknown kinds or the other collection, and questions
+  -- In whatever state with a place for each kind the blocks begin, and with any blocks of basic messages, unknown kinds or the other collection, and questions
   -- collected, between its own, a message whose blocks have come in a row is found whole at its last block, with its values.
   pub whole_found : (s : State) (before : List Call) (b : MessageBlock) (k : Kind) (us : List ℕ)
-      → Sound s → Completes before b k us → FoundWhole s before b k us
+      → length s.kept ≡ 7 → Completes before b k us → FoundWhole s before b k us
   -- So is what the writer makes of lawful values.
   pub written_found : (s : State) (before : List Call) (front : List MessageBlock) (b : MessageBlock) (k : Kind) (vs : List ℕ)
-      → Sound s → lawful k vs ≡ true → goes_to (is_aps k) b ≡ true
+      → length s.kept ≡ 7 → lawful k vs ≡ true → goes_to (is_aps k) b ≡ true
       → own (is_aps k) (before ++ give b ∷ []) ≡ front ++ reads_of (message_blocks k (filled_values vs))
       → FoundWhole s before b k (filled_values vs)
   -- If one to three of its value bits, the remainder's included, were changed on the way, it is found to have a wrong remainder.

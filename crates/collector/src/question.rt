@@ -77,10 +77,10 @@ impl Question {
         self.time
     }
 
-    #[tactic(auto, using(crate::proofs::Replies::replies_lawful))]
     /// Leaves the response among a sender's messages, with the time at which the question was received and that at which the response is sent.
     /// The question is spent if the response is taken. It is refused where a delay message waits (9): then the question comes back, and what
     /// waits is as before.
+    #[tactic(auto, using(crate::proofs::Replies::replies_lawful))]
     pub fn answer(
         self,
         received: [u8; 8],

@@ -1,5 +1,6 @@
 -- Where in a frame a slot begins.
 use Rattle.std.specs.Prelude.{◌≡◌, ℕ, ◌+◌, ◌/◌, ◌%◌, ◌≤◌, List, ◌++◌, length, slice_index}
+use Rattle.numbers.specs.Range.{slots}
 use Rattle.payload.specs.Payloads.{slot_bit}
 use Rattle.frame.specs.declared.SlotStart.{SlotStart}
 use Rattle.frame.specs.Frames.{frame_block}
@@ -15,5 +16,5 @@ SlotStarts =
 
 -- the byte there, in the frame's block, is the payload's byte in which the slot begins
 abbrev pub SlotsBeginThere : Type 0
-SlotsBeginThere = (o p : List ℕ) (k : ℕ) → length o ≡ 7 → 1 ≤ k → k ≤ 480 →
+SlotsBeginThere = (o p : List ℕ) (k : ℕ) → length o ≡ 7 → 1 ≤ k → k ≤ slots →
     slice_index (frame_block (o ++ p) ((slot_start k).block + 1)).bytes (slot_start k).byte ≡ slice_index p (slot_bit k / 8)

@@ -4,10 +4,11 @@
 --   20 to 28  the frame number
 --   29 to 48  zero when sent; the remainder covers them, and a reader whose remainder fits takes any values
 --   49 to 55  the remainder of bits 10 to 48
-use Rattle.std.specs.Prelude.{ℕ, Bool, false, if◌then◌else◌, not, List, ◌++◌, take, drop, replicate, Ok, Err, Result, ◌==◌, nat_lt}
+use Rattle.std.specs.Prelude.{ℕ, Bool, false, if◌then◌else◌, not, List, ◌++◌, take, drop, replicate, Ok, Err, Result, ◌==◌, nat_le, nat_lt}
 use Rattle.bits.specs.Bits.{high_first, high_value, packed_bytes, field}
 use Rattle.crc.specs.Remainder.{remainder}
 use Rattle.numbers.specs.Entries.{entry_of}
+use Rattle.numbers.specs.Range.{slots}
 use Rattle.overhead.specs.declared.Overhead.{Overhead}
 use Rattle.overhead.specs.declared.OverheadFault.{OverheadFault}
 use Rattle.overhead.specs.declared.OverheadFault.TheVariants.{WrongRemainder, ClientTooHigh, FrameTooHigh}
@@ -43,8 +44,8 @@ fields_in word = record { entry = high_value (take 10 word); frame = high_value 
 -- what each fault says of bits 10 to 55
 abbrev pub shows_fault : OverheadFault → List Bool → Bool
 shows_fault WrongRemainder word = not (high_value (drop 39 word) == remainder_of (take 39 word))
-shows_fault ClientTooHigh word = nat_lt 480 (fields_in word).entry
-shows_fault FrameTooHigh word = nat_lt 479 (fields_in word).frame
+shows_fault ClientTooHigh word = nat_lt slots (fields_in word).entry
+shows_fault FrameTooHigh word = nat_le slots (fields_in word).frame
 
 -- the first fault found, or what the bits say
 unfoldable pub read_word : List Bool → Result Fields OverheadFault

@@ -4,6 +4,7 @@ use Rattle.bits.specs.Bits.{bits, field}
 use Rattle.crc.specs.Laws.{xors, weight}
 use Rattle.overhead.specs.Format.{Fields, fields_of, overhead_bits, overhead_bytes, read_bytes}
 use Rattle.numbers.specs.Entries.{is_entry}
+use Rattle.numbers.specs.Range.{slots}
 use Rattle.overhead.specs.declared.Overhead.{Overhead}
 use Rattle.overhead.specs.declared.OverheadFault.TheVariants.{WrongRemainder}
 
@@ -24,8 +25,8 @@ OthersNotRead = (xs ys : List ℕ) → field xs 10 56 ≡ field ys 10 56 → rea
 
 -- fields that an overhead can have: no client or one of 480, and one of 480 frames
 pub record FieldsInRange (f : Fields) : Type 0 where
-  pub entry : f.entry ≤ 480
-  pub frame : f.frame < 480
+  pub entry : f.entry ≤ slots
+  pub frame : f.frame < slots
 
 -- the overhead of any fields is seven bytes, which are sent as its bits
 pub record SevenBytes (f : Fields) : Type 0 where
@@ -41,7 +42,7 @@ pub record OverheadsCoded : Type 0 where
 
 -- an overhead as a program can hold one, whose fields are in range
 abbrev pub IsOverhead : Overhead → Type 0
-IsOverhead o = (is_entry o.announced ≡ true) × (o.frame < 480)
+IsOverhead o = (is_entry o.announced ≡ true) × (o.frame < slots)
 
 -- the fields tell which overhead it is
 abbrev pub FieldsTell : Type 0

@@ -7,6 +7,7 @@
 ghost use Rattle.std.specs.Prelude.{◌≡◌, ◌<◌, IfOk, Ok, true};
 ghost use Rattle.bits.specs.Bits.{bits};
 ghost use Rattle.numbers.specs.Entries.{is_entry};
+ghost use Rattle.numbers.specs.Range.{slots};
 ghost use Rattle.overhead.specs.Entry.{entry_answer, read_entry, read_frame_number};
 ghost use Rattle.overhead.specs.Format.{fields_answer, fields_of, overhead_bits, overhead_bytes, read_bytes};
 ghost use Rattle.overhead.specs.Laws.{ChangesSeen, OverheadsCoded, FieldsTell, FieldsInRangeRead, IsOverhead, OthersNotRead, WorkedOverheads};
@@ -78,7 +79,7 @@ fn announced_client(entry: u16) -> Result<Option<ClientNumber>, OverheadFault>
 // The frame that a number names.
 fn frame_number(number: u16) -> Result<FrameNumber, OverheadFault>
     ensures read { result ≡ read_frame_number number }
-    ensures range { IfOk result (λ frame. frame < 480) }
+    ensures range { IfOk result (λ frame. frame < slots) }
 {
     FrameNumber::try_from(number).map_err(|_| OverheadFault::FrameTooHigh)
 }

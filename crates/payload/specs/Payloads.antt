@@ -3,6 +3,7 @@ use Rattle.std.specs.Prelude.{ℕ, Bool, ◌-◌, ◌*◌, List, map, take, drop
 use Rattle.std.specs.List.{range_with_len, flat_map}
 use Rattle.block.specs.declared.Pair.{Pair}
 use Rattle.bits.specs.Bits.{bits, packed_bytes}
+use Rattle.numbers.specs.Range.{slots}
 use Rattle.payload.specs.Pairs.{pair_bits, pair_of}
 
 -- the bit at which slot k begins
@@ -19,7 +20,7 @@ pair_at k payload = pair_of (slot_bits k payload)
 
 -- the pairs of slots 1 to 480
 unfoldable pub pairs_of : List ℕ → List Pair
-pairs_of payload = map (λ k. pair_at k payload) (range_with_len 1 480)
+pairs_of payload = map (λ k. pair_at k payload) (range_with_len 1 slots)
 
 -- the payload in which the pairs stand in the slots from 1 on
 unfoldable pub payload_of : List Pair → List ℕ

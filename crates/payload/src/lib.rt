@@ -17,7 +17,7 @@ ghost use Rattle.std.specs.List.{All, flat_map};
 mod slot_place;
 
 use block::{Block, Pair, Sync};
-use numbers::SlotNumber;
+use numbers::{SLOTS, SlotNumber};
 use slot_place::{Place, Start};
 
 /// The bytes of a frame that the slots share.
@@ -196,7 +196,7 @@ pub fn write_pair(payload: &mut Payload, slot: SlotNumber, pair: Pair)
 }
 
 /// Writes the pairs of slots 1 to 480, the first of them into slot 1.
-pub fn pack(pairs: &[Pair; 480], payload: &mut Payload)
+pub fn pack(pairs: &[Pair; SLOTS], payload: &mut Payload)
     ensures made { payload.new ≡ payload_of pairs.now }
     ensures sent { bits payload.new ≡ flat_map pair_bits pairs.now }
     ensures undone { pairs_of payload.new ≡ pairs.now }
@@ -220,7 +220,7 @@ fn hold_bytes(payload: &Payload)
 }
 
 /// Reads the pairs of slots 1 to 480, that of slot 1 into the first place.
-pub fn unpack(payload: &Payload, pairs: &mut [Pair; 480])
+pub fn unpack(payload: &Payload, pairs: &mut [Pair; SLOTS])
     ensures made { pairs.new ≡ pairs_of payload.now }
     ensures undone { payload_of pairs.new ≡ payload.now }
     ensures whole { All WholePair pairs.new }

@@ -1,5 +1,6 @@
 //! Where in the payload a slot begins.
 ghost use Rattle.std.specs.Prelude.{◌≡◌, ◌+◌, ◌*◌, ◌<◌, ◌≤◌};
+ghost use Rattle.numbers.specs.Range.{slots};
 
 // The first of the 17 bytes in which a pair lies.
 #[derive(Clone, Copy)]
@@ -20,7 +21,7 @@ impl Place {
 
     // The place of the slot with this index, which is the slot's number less one.
     pub(crate) fn of_slot(index: usize) -> Place
-        requires { index < 480 }
+        requires { index < slots }
         ensures { place_bit result ≡ 132 * index }
     {
         let byte = index / 2 * 33;

@@ -39,11 +39,6 @@ padded_pair f n m l e =
     ∙ append_assoc (padded_blocks f n l) (or_filler f (first_of (drop n l)) ∷ []) (or_filler f (first_of (drop (n + 1) l)) ∷ [])
     ∙ ap (λ d. padded_blocks f n l ++ (or_filler f (first_of (drop n l)) ∷ or_filler f (first_of d) ∷ [])) (sym (rest_more n l))
 
-pub length_padded : (f : Block) (n : ℕ) (l : List Block) → length (padded_blocks f n l) ≡ n
-unfolding padded_blocks
-length_padded f zero l = refl
-length_padded f (suc n) l = ap suc (length_padded f n (rest_of l))
-
 pub padded_none : (f : Block) (n : ℕ) → padded_blocks f n [] ≡ replicate n f
 unfolding padded_blocks
 padded_none f zero = refl

@@ -28,13 +28,6 @@ frame_even i (a_spare h k a e) t = absurd (both_ways (is_frame (item_at i)) (ap 
 pub is_frame-even : (i : ℕ) → i % 65 % 2 ≡ 0 → is_frame (item_at i) ≡ true
 is_frame-even i h = ap is_frame (at_frame i h)
 
-pub is_frame-odd : (i : ℕ) → i % 65 % 2 ≡ 1 → is_frame (item_at i) ≡ false
-is_frame-odd i h = go (is_frame (item_at i)) refl
-  where
-    go : (b : Bool) → is_frame (item_at i) ≡ b → b ≡ false
-    go true e = absurd (let z : i % 65 % 2 ≡ 0 = frame_even i (view i) e in omega arith)
-    go false e = refl
-
 pub frames_more : (n : ℕ) → n % 65 % 2 ≡ 0 → frames_before (n + 1) ≡ frames_before n + 1
 frames_more n h = omega arith
 

@@ -26,8 +26,8 @@ use under_way::outgoing::Outgoing;
 use waiting::LeftMessages;
 
 impl Sender {
-    #[tactic(auto, unfolding(sending::specs::Life::state_of))]
     /// A sender for a calendar, with the 32 trail bytes of its CV message; nothing is sent, and no message waits.
+    #[tactic(auto, unfolding(sending::specs::Life::state_of))]
     pub fn new(calendar: Calendar, trail: [u8; 32]) -> Sender
         ensures made { result ≡ new_sender (entries_of calendar) trail }
         ensures life { state_of result.made made ≡ result.state }

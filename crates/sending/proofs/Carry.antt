@@ -9,9 +9,9 @@ use Rattle.port.specs.Pairs.{or_filler}
 use Rattle.block.specs.Fixed.{idle_block, error_block}
 use Rattle.block.specs.declared.Class.{Class}
 use Rattle.block.specs.declared.Class.TheVariants.{Data, Idle, Characters, OrderedSet, Start, End, Unlawful}
-use Rattle.block.specs.Classes.{class_of, is_lawful, lawful_or_error}
+use Rattle.block.specs.Classes.{class_of, is_idle, is_lawful, lawful_or_error}
 use Rattle.calendar.specs.Share.{slot_count}
-use Rattle.sending.specs.Blocks.{is_idle_block, is_idle_class, without_idles}
+use Rattle.sending.specs.Blocks.{is_idle_block, without_idles}
 use Rattle.sending.specs.Laid.{pair_for, lists_after_slot, pairs_for, lists_after_frame, room_for, blocks_given, blocks_laid_for}
 use Rattle.sending.specs.ClientLaws.{filled_up}
 use Rattle.sending.proofs.Codes.{idle_idle}
@@ -21,7 +21,7 @@ idle_lawful : (b : Block) → is_idle_block b ≡ true → is_lawful (class_of b
 unfolding is_idle_block
 idle_lawful b h = go (class_of b) h
   where
-    go : (c : Class) → is_idle_class c ≡ true → is_lawful c ≡ true
+    go : (c : Class) → is_idle c ≡ true → is_lawful c ≡ true
     go Data e = refl
     go Idle e = refl
     go Characters e = refl
@@ -74,10 +74,6 @@ blocks_up_to : ℕ → List Block → List Block
 blocks_up_to zero l = []
 blocks_up_to (suc n) [] = idle_block ∷ blocks_up_to n []
 blocks_up_to (suc n) (b ∷ l) = lawful_or_error b ∷ blocks_up_to n l
-
-take_none : (k : ℕ) → take {A = Block} k [] ≡ []
-take_none zero = refl
-take_none (suc k) = refl
 
 up_to_none : (n : ℕ) → blocks_up_to n [] ≡ replicate n idle_block
 unfolding blocks_up_to

@@ -105,10 +105,6 @@ sound_more s rest h delays = h delays
 sound_more s rest h protections = h protections
 
 -- ---- leaving
-pub waiting_with : (s : SenderState) (q : Sort) (d : WaitingMessage) → waiting_of (with_waiting s q d) q ≡ d
-waiting_with s delays d = refl
-waiting_with s protections d = refl
-
 pub accepted_is : (s : SenderState) (o : Option MessageToSend) (x : MessageToSend) → accepted_message s o ≡ Some x → o ≡ Some x
 accepted_is s None x e = absurd (cc)
 accepted_is s (Some y) x e = go (waits (waiting_of s y.sort)) e

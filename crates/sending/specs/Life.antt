@@ -1,4 +1,4 @@
--- Every life of a sender: made once, then its calls in any order, refused or not; between them anyone may change the inlets.
+-- A life of a sender: how it was made, and its calls in the order in which they came, with what may happen to the inlets between two of them.
 use Rattle.std.specs.Prelude.{◌≡◌, ℕ, if◌then◌else◌, List, [], ◌∷◌, ◌++◌, Option}
 use Rattle.block.specs.declared.Block.{Block}
 use Rattle.port.specs.Model.{Lists}

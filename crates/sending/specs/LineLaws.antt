@@ -3,6 +3,7 @@ use Rattle.std.specs.Prelude.{◌≡◌, ℕ, ◌+◌, ◌*◌, ◌%◌, ◌<◌
 use Rattle.block.specs.declared.Block.{Block}
 use Rattle.block.specs.Fixed.{idle_block, start_block}
 use Rattle.message.specs.Written.{basic_block}
+use Rattle.numbers.specs.Range.{slots}
 use Rattle.schedule.specs.declared.Item.{Item}
 use Rattle.schedule.specs.declared.Item.TheVariants.{Frame as FrameItem, Idle, Basic, Protection, Verification, ClientSignal, Delay, Spare}
 use Rattle.schedule.specs.Cycle.{item_at, frames_before}
@@ -38,7 +39,7 @@ SendsItsItems = (m : Made) (l : Life) → AreOnLine (items m l) (blocks m l) (st
 -- item i of a life, from 0, is what the schedule says: a frame has its number, announces its entry, and has a pair for each slot
 pub record FrameStands (m : Made) (i : ℕ) (f : LineFrame) : Type 0 where
   pub item : item_at i ≡ FrameItem
-  pub number : f.number ≡ frames_before i % 480
+  pub number : f.number ≡ frames_before i % slots
   pub entry : f.entry ≡ slice_index m.calendar f.number
   pub many : length f.pairs ≡ length m.calendar
 

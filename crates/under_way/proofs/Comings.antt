@@ -9,7 +9,7 @@ use Rattle.block.specs.declared.Class.{Class}
 use Rattle.block.specs.declared.Class.TheVariants.{Data, Idle, Characters, OrderedSet, Start, End, Unlawful}
 use Rattle.block.specs.declared.Sync.{Sync}
 use Rattle.block.specs.declared.Sync.TheVariants.{Zeros, Control, Data as DataSync, Ones}
-use Rattle.block.specs.Classes.{class_of}
+use Rattle.block.specs.Classes.{class_of, is_data}
 use Rattle.block.proofs.Classes.{classes_told}
 use Rattle.block.specs.Fixed.{start_block}
 use Rattle.frame.specs.Frames.{frame_of, carried_after, with_data}
@@ -17,7 +17,7 @@ use Rattle.frame.specs.Places.{is_data_place}
 use Rattle.frame.proofs.Frames.{frame_length}
 use Rattle.frame.proofs.Steps.{closes, grows, opens}
 use Rattle.frame.proofs.Storing.{none_stored, stored_data}
-use Rattle.under_way.specs.Coming.{blocks_after, finish_answer, grow_answer, is_data, is_full_end, frame_if_whole}
+use Rattle.under_way.specs.Coming.{blocks_after, finish_answer, grow_answer, is_full_end, frame_if_whole}
 use Rattle.under_way.specs.declared.incoming.Misfit.{Misfit}
 use Rattle.under_way.specs.declared.incoming.Misfit.TheVariants.{OtherClass, OtherPlace}
 

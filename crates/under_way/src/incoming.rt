@@ -1,8 +1,8 @@
 //! The frame that a receiver is taking. In contracts it is the list of its blocks so far.
 ghost use Rattle.std.specs.Prelude.{◌≡◌, ◌≤◌, ◌∷◌, [], length};
-ghost use Rattle.block.specs.Classes.{class_of};
+ghost use Rattle.block.specs.Classes.{class_of, is_data};
 ghost use Rattle.block.specs.Fixed.{start_block};
-ghost use Rattle.under_way.specs.Coming.{blocks_after, finish_answer, grow_answer, is_data, is_full_end, frame_if_whole};
+ghost use Rattle.under_way.specs.Coming.{blocks_after, finish_answer, grow_answer, is_full_end, frame_if_whole};
 
 use crate::whole::WholeFrame;
 use block::{Block, Class, Sync};

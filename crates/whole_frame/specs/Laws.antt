@@ -5,6 +5,7 @@ use Rattle.block.specs.declared.Block.{Block}
 use Rattle.block.specs.declared.Pair.{Pair}
 use Rattle.block.specs.Whole.{Whole, WholePair}
 use Rattle.crc.specs.Laws.{weight}
+use Rattle.numbers.specs.Range.{slots}
 use Rattle.overhead.specs.Format.{Fields}
 use Rattle.overhead.specs.Laws.{FieldsInRange, changes}
 use Rattle.overhead.specs.declared.OverheadFault.TheVariants.{WrongRemainder}
@@ -14,7 +15,7 @@ use Rattle.whole_frame.specs.Meaning.{Content, frame_read, frame_written}
 -- what a program can send
 pub record Sendable (f : Fields) (pairs : List Pair) : Type 0 where
   pub fields : FieldsInRange f
-  pub many : length pairs ≡ 480
+  pub many : length pairs ≡ slots
   pub whole : All WholePair pairs
 
 -- the same blocks but for the second, in which one, two or three of the overhead's bits 10 to 55 differ; its bits 0 to 9 and the payload's

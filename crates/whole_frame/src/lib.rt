@@ -12,6 +12,7 @@ ghost use Rattle.whole_frame.specs.Meaning.{content_with, frame_read, frame_writ
 
 use block::{Block, Pair};
 use frame::{assemble, take_apart};
+use numbers::SLOTS;
 use overhead::{Overhead, OverheadFault};
 use payload::{Payload, pack};
 
@@ -29,7 +30,7 @@ pub fn frames_are_coded()
 #[tactic(auto, unfolding(crate::specs::Meaning::frame_written))]
 pub fn write_frame(
     overhead: Overhead,
-    pairs: &[Pair; 480],
+    pairs: &[Pair; SLOTS],
     payload: &mut Payload,
     blocks: &mut [Block; 992],
 )
