@@ -83,39 +83,40 @@ module _ (q : ClientQueues) where
       ∙ sym (lengths_from ([] ∷ map deque_items q.queues.items) slots 1 (omega (arith, many, length-map q.queues.items (deque_items {X = Block} {Z = Global})))
       ∙ lengths_known q.queues.items)
 
-  -- the queue at a client's place, and another in its place
-  module _ (i c : ℕ) (at : i + 1 ≡ c) (within : i < slots) (old new : VecDeque Block Global) (here : old ≡ get_or q.queues.items i old) where
+  -- the queue at client c's place
+  module _ (i : ℕ) (old : VecDeque Block Global) (here : old ≡ get_or q.queues.items i old) (c : ℕ) (at : i + 1 ≡ c) (within : i < slots) where
     inside : i < length q.queues.items
     inside = omega (arith, many, within)
 
     list_at : waiting_in q c ≡ old.items
     list_at = rw (sym at, add-one i) (get_or-map deque_items q.queues.items i old [] inside ∙ ap deque_items (sym here))
 
-    list_set : (l : List Block) → new.items ≡ l → (λ k. get_or ([] ∷ map deque_items (set q.queues.items i new)) k []) ≡ updated (waiting_in q) c l
-    list_set l e =
-        ap (λ ls k. get_or ([] ∷ ls) k []) (map-set deque_items q.queues.items i new ∙ ap (set (map deque_items q.queues.items) i) e)
-        ∙ one_set (map deque_items q.queues.items) i c l at (omega (arith, inside, length-map q.queues.items (deque_items {X = Block} {Z = Global})))
-
-    -- the same blocks wait
-    pub same_wait : new.items ≡ old.items → (λ k. get_or ([] ∷ map deque_items (set q.queues.items i new)) k []) ≡ waiting_in q
-    same_wait e = list_set old.items e ∙ ap (updated (waiting_in q) c) (sym list_at) ∙ updated_same (waiting_in q) c
-
-    -- blocks are put behind them
-    pub more_wait : (l : List Block) → new.items ≡ old.items ++ l → (λ k. get_or ([] ∷ map deque_items (set q.queues.items i new)) k []) ≡ updated (waiting_in q) c (waiting_in q c ++ l)
-    more_wait l e = list_set (waiting_in q c ++ l) (e ∙ ap (λ w. w ++ l) (sym list_at))
-
-    -- the first is given, or none where there is none
-    pub given_first : (b : Block) → old.items ≡ b ∷ new.items → Some b ≡ first_of (waiting_in q c)
-    given_first b e = rw (list_at, e) refl
-
-    pub given_rest : (b : Block) → old.items ≡ b ∷ new.items → (λ k. get_or ([] ∷ map deque_items (set q.queues.items i new)) k []) ≡ taken c (waiting_in q)
-    given_rest b e = list_set (rest_of (waiting_in q c)) (rw (list_at, e) refl)
+    pub given_first : (b : Block) (rest : List Block) → old.items ≡ b ∷ rest → Some b ≡ first_of (waiting_in q c)
+    given_first b rest e = rw (list_at, e) refl
 
     pub none_first : deque_len old ≡ 0 → None ≡ first_of (waiting_in q c)
     none_first n = rw (list_at, nil_from_length old.items (sym old.ok.0 ∙ n)) refl
 
-    pub none_rest : deque_len old ≡ 0 → deque_len new ≡ 0 → (λ k. get_or ([] ∷ map deque_items (set q.queues.items i new)) k []) ≡ taken c (waiting_in q)
-    none_rest n m = list_set (rest_of (waiting_in q c)) (rw (list_at, nil_from_length old.items (sym old.ok.0 ∙ n)) (nil_from_length new.items (sym new.ok.0 ∙ m)))
+    -- and a queue in its place
+    module _ (new : VecDeque Block Global) (after : List (VecDeque Block Global)) (there : after ≡ set q.queues.items i new) where
+      list_set : (l : List Block) → new.items ≡ l → (λ k. get_or ([] ∷ map deque_items after) k []) ≡ updated (waiting_in q) c l
+      list_set l e =
+          ap (λ ls k. get_or ([] ∷ ls) k [])
+          (ap (map deque_items) there ∙ map-set deque_items q.queues.items i new ∙ ap (set (map deque_items q.queues.items) i) e)
+          ∙ one_set (map deque_items q.queues.items) i c l at (omega (arith, inside, length-map q.queues.items (deque_items {X = Block} {Z = Global})))
+
+      pub given_rest : (b : Block) → old.items ≡ b ∷ new.items → (λ k. get_or ([] ∷ map deque_items after) k []) ≡ taken c (waiting_in q)
+      given_rest b e = list_set (rest_of (waiting_in q c)) (rw (list_at, e) refl)
+
+      pub none_rest : deque_len old ≡ 0 → deque_len new ≡ 0 → (λ k. get_or ([] ∷ map deque_items after) k []) ≡ taken c (waiting_in q)
+      none_rest n m =
+          list_set (rest_of (waiting_in q c)) (rw (list_at, nil_from_length old.items (sym old.ok.0 ∙ n)) (nil_from_length new.items (sym new.ok.0 ∙ m)))
+
+      pub same_wait : new.items ≡ old.items → (λ k. get_or ([] ∷ map deque_items after) k []) ≡ waiting_in q
+      same_wait e = list_set old.items e ∙ ap (updated (waiting_in q) c) (sym list_at) ∙ updated_same (waiting_in q) c
+
+      pub more_wait : (l : List Block) → new.items ≡ old.items ++ l → (λ k. get_or ([] ∷ map deque_items after) k []) ≡ updated (waiting_in q) c (waiting_in q c ++ l)
+      more_wait l e = list_set (waiting_in q c ++ l) (e ∙ ap (λ w. w ++ l) (sym list_at))
 
 -- nothing stands at a place behind the last
 none_past : (xs : List Block) (k : ℕ) → None ≡ slice_get xs k → length xs ≤ k

@@ -58,6 +58,7 @@ impl ClientQueues {
     }
 
     /// How many blocks wait, of all clients.
+    #[tactic(auto, using(crate::proofs::Lists::waiting_known))]
     pub fn len(&self) -> usize
         ensures { result ≡ blocks_waiting (waiting_in self.now) }
     {
@@ -65,6 +66,7 @@ impl ClientQueues {
     }
 
     /// Does no block wait?
+    #[tactic(auto, using(crate::proofs::Lists::waiting_known))]
     pub fn is_empty(&self) -> bool
         ensures { result ≡ (blocks_waiting (waiting_in self.now) == 0) }
     {
@@ -92,6 +94,7 @@ impl ClientQueues {
 impl Inlet for ClientQueues {
     ghost waiting = { waiting_in };
 
+    #[tactic(auto, using(crate::proofs::Lists::given_first, crate::proofs::Lists::none_first))]
     fn next(&mut self, client: ClientNumber) -> Option<Block> {
         let block = self.queues[client.index()].pop_front()?;
         self.blocks -= 1;
