@@ -27,14 +27,23 @@ fn sync_digits(sync: Sync) -> &'static [u8; 2]
     }
 }
 
+// The digits of a block's bytes.
+fn byte_digits(bytes: &[u8; 8]) -> [u8; 16]
+    ensures { result ≡ hex_text bytes.now }
+{
+    let mut digits = [0; 16];
+    // never refused: there are two places for each byte
+    let _ = hex::encode_to_slice(&bytes[..], &mut digits);
+    digits
+}
+
 /// The line of a block.
 pub fn write(block: Block) -> [u8; LINE_LEN]
     ensures { result ≡ block_line block }
 {
     let mut line = *b"00 0000000000000000\n";
     line[..2].copy_from_slice(sync_digits(block.sync));
-    // never refused: there are two places for each byte
-    let _ = hex::encode_to_slice(&block.bytes[..], &mut line[3..19]);
+    line[3..19].copy_from_slice(&byte_digits(&block.bytes));
     line
 }
 
@@ -94,4 +103,63 @@ pub fn read(line: &[u8]) -> Result<Block, FormError>
     ensures only { OnlyBlocksRead }
 {
     read_parts(line)
+}
+
+#[cfg(test)]
+mod tests {
+    use super::*;
+
+    // Lines of blocks, worked by hand.
+    #[test]
+    fn lines(rt: HostRuntime) {
+        let data = Block {
+            sync: Sync::Data,
+            bytes: [0x01, 0x23, 0x45, 0x67, 0x89, 0xAB, 0xCD, 0xEF],
+        };
+        let table = [
+            (Block::idle(), b"10 1e00000000000000\n"),
+            (Block::error(), b"10 1e1e8fc7e3f1783c\n"),
+            (data, b"01 0123456789abcdef\n"),
+            (
+                Block {
+                    sync: Sync::Zeros,
+                    bytes: [0; 8],
+                },
+                b"00 0000000000000000\n",
+            ),
+            (
+                Block {
+                    sync: Sync::Ones,
+                    bytes: [0xFF; 8],
+                },
+                b"11 ffffffffffffffff\n",
+            ),
+        ];
+        for (block, line) in table {
+            assert_eq!(rt; write(block), *line);
+            assert_eq!(rt; read(line), Ok(block));
+        }
+    }
+
+    // Lines that are no block's.
+    #[test]
+    fn no_lines(rt: HostRuntime) {
+        let table: [&[u8]; 12] = [
+            b"",
+            b"\n",
+            b"01",
+            b"01 0123456789abcdef",
+            b"01 0123456789abcdef\r\n",
+            b"01 0123456789abcdeF\n",
+            b"01 0123456789abcde\n",
+            b"01 0123456789abcdef00\n",
+            b"01  123456789abcdef\n",
+            b"02 0123456789abcdef\n",
+            b" 01 0123456789abcdef\n",
+            b"010123456789abcdef\n",
+        ];
+        for line in table {
+            assert_eq!(rt; read(line), Err(FormError));
+        }
+    }
 }
