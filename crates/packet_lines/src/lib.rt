@@ -8,6 +8,7 @@ ghost use Rattle.std.specs.Prelude.{◌≡◌, ◌≤◌, length, take, Some, No
 ghost use Rattle.calendar.specs.Entries.{entries_of};
 ghost use Rattle.client_queues.specs.Waiting.{waiting_in};
 ghost use Rattle.packet_lines.specs.Lines.{text_lines};
+ghost use Rattle.packet_lines.specs.Texts.{bad_text, error_text};
 ghost use Rattle.packet_lines.specs.Reading.{IsReason, bad_or, brought_by, first_bad, joined, lists_of, packet_of};
 
 use calendar::Calendar;
@@ -17,6 +18,7 @@ use numbers::ClientNumber;
 use packet::is_packet_length;
 use refusal::Refusal;
 use std::alloc::{AllocError, Global};
+use std::fmt;
 
 /// Why a line is not taken.
 #[derive(Clone, Copy, Debug, PartialEq, Eq)]
@@ -65,6 +67,29 @@ impl From<AllocError> for ReadError {
 
     fn from(_error: AllocError) -> ReadError {
         ReadError::Memory
+    }
+}
+
+impl fmt::Display for BadLine {
+    ghost output = { λ bad. Some (bad_text bad) };
+
+    fn fmt<W: fmt::Write>(&self, f: &mut fmt::Formatter<W>) -> fmt::Result {
+        let line = self.line;
+        match self.error {
+            LineError::Refused(cause) => write!(f, "refused {} line {line}", cause.number()),
+            LineError::NoSlot(client) => write!(f, "no slot for client {client}, line {line}"),
+        }
+    }
+}
+
+impl fmt::Display for ReadError {
+    ghost output = { λ error. Some (error_text error) };
+
+    fn fmt<W: fmt::Write>(&self, f: &mut fmt::Formatter<W>) -> fmt::Result {
+        match self {
+            ReadError::Line(bad) => write!(f, "{bad}"),
+            ReadError::Memory => write!(f, "no memory for the packets"),
+        }
     }
 }
 

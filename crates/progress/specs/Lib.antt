@@ -1,1 +1,2 @@
 pub mod Goals
+pub mod Reports

@@ -3,10 +3,12 @@
 //! Main promise: sending ends with a frame's end block, at the first frame that the goal allows.
 #![tactic(auto)]
 
-ghost use Rattle.std.specs.Prelude.{◌≡◌};
-ghost use Rattle.progress.specs.Goals.{begun, counted, is_last, is_learning, is_over};
+ghost use Rattle.std.specs.Prelude.{◌≡◌, Some};
+ghost use Rattle.progress.specs.Goals.{begun, counted, is_last, is_learning, is_none};
+ghost use Rattle.progress.specs.Reports.{report_text};
 
 use block::Block;
+use std::fmt;
 
 /// Frames of a multiframe, by which the far end learns the calendar.
 const MULTIFRAME: u64 = 480;
@@ -31,6 +33,13 @@ pub struct Progress {
     pub over: bool,
 }
 
+// Is no frame to be sent?
+fn is_none(goal: Goal) -> bool
+    ensures { result ≡ is_none goal }
+{
+    matches!(goal, Goal::Frames(0))
+}
+
 impl Progress {
     /// Nothing is sent yet.
     pub fn new(goal: Goal) -> Progress
@@ -39,7 +48,7 @@ impl Progress {
         Progress {
             goal,
             frames: 0,
-            over: goal == Goal::Frames(0),
+            over: is_none(goal),
         }
     }
 
@@ -47,7 +56,10 @@ impl Progress {
     pub fn is_learning(&self) -> bool
         ensures { result ≡ is_learning self.now }
     {
-        self.goal == Goal::AllSent && self.frames < MULTIFRAME
+        match self.goal {
+            Goal::Frames(_) => false,
+            Goal::AllSent => self.frames < MULTIFRAME,
+        }
     }
 
     // Does the goal allow that sending ends with this frame's end, by whether a packet still waits?
@@ -68,5 +80,62 @@ impl Progress {
             self.frames = self.frames.saturating_add(1);
             self.over = self.is_last(self.frames, none_waits);
         }
+    }
+}
+
+/// What is told of sending.
+#[derive(Clone, Copy, Debug, PartialEq, Eq)]
+pub enum Report {
+    /// How many frames have been sent to their end.
+    FramesSent(u64),
+    /// How many blocks of packets still wait when sending is over.
+    BlocksUnsent(usize),
+}
+
+impl fmt::Display for Report {
+    ghost output = { λ report. Some (report_text report) };
+
+    fn fmt<W: fmt::Write>(&self, f: &mut fmt::Formatter<W>) -> fmt::Result {
+        match *self {
+            Report::FramesSent(frames) => write!(f, "frames sent {frames}"),
+            Report::BlocksUnsent(blocks) => write!(f, "blocks left unsent {blocks}"),
+        }
+    }
+}
+
+#[cfg(test)]
+mod tests {
+    use super::*;
+    use block::Sync;
+
+    // Frames are counted at their ends, and sending is over at the first one that the goal allows.
+    #[test]
+    fn ends(rt: HostRuntime) {
+        let end = Block {
+            sync: Sync::Control,
+            bytes: [0xFF; 8],
+        };
+        let table = [
+            (Goal::Frames(1), 1, false, true),
+            (Goal::Frames(2), 1, true, false),
+            (Goal::Frames(2), 2, false, true),
+            (Goal::AllSent, 480, true, false),
+            (Goal::AllSent, 481, false, false),
+            (Goal::AllSent, 481, true, true),
+        ];
+        for (goal, frames, none_waits, over) in table {
+            let mut progress = Progress::new(goal);
+            for _ in 0..frames {
+                assert!(rt; !progress.over);
+                progress.count(&Block::start(), none_waits);
+                progress.count(&end, none_waits);
+                progress.count(&Block::idle(), none_waits);
+            }
+            assert_eq!(rt; progress.frames, frames);
+            assert_eq!(rt; progress.over, over);
+        }
+        assert!(rt; Progress::new(Goal::Frames(0)).over);
+        assert!(rt; Progress::new(Goal::AllSent).is_learning());
+        assert!(rt; !Progress::new(Goal::Frames(1)).is_learning());
     }
 }
