@@ -1,18 +1,21 @@
 -- What the calls of a bank do to the lists of the clients.
-use Rattle.std.proofs.Common.{◌≡◌, ℕ, zero, suc, ◌+◌, ◌-◌, ◌<◌, ◌≤◌, min, Bool, true, false, cond, eqb, ◌≢◌, List, [], ◌∷◌, ◌++◌, length, get_or, take, drop, set, replicate, Some, None, Ok, sym, refl, ap, ◌∙◌, subst, ⊎_elim, append_assoc, arith, length-set, length-take}
+use Rattle.std.proofs.Common.{◌≡◌, ℕ, zero, suc, ◌+◌, ◌-◌, ◌*◌, ◌<◌, ◌≤◌, min, Bool, true, false, cond, eqb, ◌≢◌, List, [], ◌∷◌, ◌++◌, length, get_or, take, drop, set, replicate, Some, Ok, sym, refl, ap, ◌∙◌, subst, ⊎_elim, append_assoc, arith, length-set, length-take}
 use Rattle.std.proofs.Math.Path.{fun_ext}
 use Rattle.std.proofs.lemmas.List.{take_all, drop_all, take-append-le, take_more_set, get_or-set_same, get_or-set_other, get_or-take, get_or-drop, get_or_past, get_or-replicate, length-replicate}
 use Rattle.std.proofs.lemmas.Bool.{eqb-true, eqb-false, cases_lt}
 use Rattle.std.specs.Borrow.{GName}
 use Rattle.block.specs.declared.Block.{Block}
-use Rattle.port.specs.Model.{Lists, Holding, Accepted, first_of, rest_of, taken, given, empty_with}
+use Rattle.block.specs.declared.Pair.{Pair}
+use Rattle.port.specs.Model.{Lists, Holding, PutAccepted, first_of, rest_of, lists_after_next, block_count_given, pair_blocks, empty_with}
+use Rattle.port.proofs.Lists.{by_client, holding_by, none_removed}
+use Rattle.bank.specs.declared.Bank.{Bank}
 use Rattle.bank.specs.declared.Ring.{Ring}
-use Rattle.bank.specs.Ring.{turned, place_at}
-use Rattle.bank.specs.Lists.{Contents, width_of, AreaAt, area_of, ring_of, blocks_in, free_in, after_next, after_put}
+use Rattle.bank.specs.Ring.{ring_order, place_at}
+use Rattle.bank.specs.Lists.{BankContents, width_of, AreaAt, area_of, ring_of, blocks_in, free_in, bank_holding_after_next, bank_holding_after_put}
 use Rattle.bank.proofs.Turns.{length_turned, place_below, turned_set, turned_get, turned_next}
 use Rattle.bank.proofs.Areas.{area_is, length_area, area_set, area_kept}
 
-turned_none : (first : ℕ) (a : List Block) → length a ≤ 0 → turned first a ≡ []
+turned_none : (first : ℕ) (a : List Block) → length a ≤ 0 → ring_order first a ≡ []
 turned_none first [] h =
     let d : drop {A = Block} first [] ≡ [] = drop_all first [] (omega arith) in
     let t : take {A = Block} first [] ≡ [] = take_all first [] (omega arith) in
@@ -26,33 +29,26 @@ take_none n = take_all n [] (omega arith)
 pub nothing_without_places : (w k : ℕ) (memory : List Block) (rings : List Ring) → width_of w (length memory) k ≡ 0 → blocks_in w memory rings k ≡ []
 nothing_without_places w k memory rings z =
     let l : length (area_of w memory k) ≤ 0 = rw z (omega arith) in
-    let e : turned (ring_of rings k).first (area_of w memory k) ≡ [] = turned_none (ring_of rings k).first (area_of w memory k) l in
+    let e : ring_order (ring_of rings k).first (area_of w memory k) ≡ [] = turned_none (ring_of rings k).first (area_of w memory k) l in
     rw e (take_none (ring_of rings k).count)
 
--- client c has no block: none is given, and all lists stay
-pub none_given : (lists : Lists) (c : ℕ) → lists c ≡ [] → None ≡ first_of (lists c)
-none_given lists c e = rw e refl
-
-none_taken : (lists : Lists) (c : ℕ) → lists c ≡ [] → lists ≡ taken c lists
-none_taken lists c e = fun_ext (λ k. go k (eqb k c) refl)
-  where
-    go : (k : ℕ) (t : Bool) → eqb k c ≡ t → lists k ≡ cond (eqb k c) (rest_of (lists c)) (lists k)
-    go k true q = rw (q, eqb-true k c q, e) refl
-    go k false q = rw q refl
-
-holding_by : (l m : Lists) (f g : ℕ → ℕ) → l ≡ m → f ≡ g → ◌≡◌ {A = Holding} (record { held = l; free = f }) (record { held = m; free = g })
-holding_by l m f g e q = ap (λ (x : Lists). record { held = x; free = f }) e ∙ ap (λ (x : ℕ → ℕ). record { held = m; free = x }) q
-
 -- a bank's contents by what it holds
-abbrev pub held_by : ℕ → GName → Holding → Contents
+abbrev pub held_by : ℕ → GName → Holding → BankContents
 held_by n g h = record { holding = h; areas = n; lender = g }
 
 pub contents_by : (n m : ℕ) (g : GName) (h j : Holding) → n ≡ m → h ≡ j → held_by n g h ≡ held_by m g j
 contents_by n m g h j e q = ap (λ k. held_by k g h) e ∙ ap (held_by m g) q
 
+-- a bank by its memory and its rings
+abbrev bank_with : Bank → List Block → List Ring → Bank
+bank_with bank memory rings = record bank { memory = record bank.memory { now = memory }; rings = rings }
+
+pub bank_by : (bank : Bank) (l m : List Block) (r s : List Ring) → l ≡ m → r ≡ s → bank_with bank l r ≡ bank_with bank m s
+bank_by bank l m r s e q = ap (λ k. bank_with bank k r) e ∙ ap (bank_with bank m) q
+
 -- and no place is freed
-pub none_freed : (lists : Lists) (f : ℕ → ℕ) (c : ℕ) → lists c ≡ [] → ◌≡◌ {A = Holding} (record { held = lists; free = f }) (after_next c (record { held = lists; free = f }))
-none_freed lists f c e = holding_by lists (taken c lists) f _ (none_taken lists c e) (fun_ext (λ k. rw e (go k (eqb k c))))
+pub none_freed : (lists : Lists) (f : ℕ → ℕ) (c : ℕ) → lists c ≡ [] → ◌≡◌ {A = Holding} (record { held = lists; free = f }) (bank_holding_after_next c (record { held = lists; free = f }))
+none_freed lists f c e = holding_by lists (lists_after_next c lists) f _ (none_removed lists c e) (fun_ext (λ k. rw e (go k (eqb k c))))
   where
     go : (k : ℕ) (t : Bool) → f k ≡ f k + cond t 0 0
     go k true = omega arith
@@ -82,8 +78,8 @@ abbrev grown : Ring → Ring
 grown r = record { first = r.first; count = r.count + 2 }
 
 -- the memory with a pair written behind the last block of the ring of an area
-abbrev written : ℕ → ℕ → List Block → Ring → Block → Block → List Block
-written w start memory r a b = set (set memory (start + place_at r.first w r.count) a) (start + place_at r.first w (r.count + 1)) b
+abbrev written : ℕ → ℕ → List Block → Ring → Pair → List Block
+written w start memory r pair = set (set memory (start + place_at r.first w r.count) pair.first) (start + place_at r.first w (r.count + 1)) pair.second
 
 abbrev holding_in : ℕ → List Block → List Ring → Holding
 holding_in w memory rings = record { held = blocks_in w memory rings; free = free_in w (length memory) rings }
@@ -93,7 +89,7 @@ first_of_take zero l d h k = absurd (omega arith)
 first_of_take (suc n) [] d h k = absurd (omega arith)
 first_of_take (suc n) (x ∷ l) d h k = refl
 
-one_given : (l : List Block) → 0 < length l → given (first_of l) ≡ 1
+one_given : (l : List Block) → 0 < length l → block_count_given (first_of l) ≡ 1
 one_given [] h = absurd (omega arith)
 one_given (x ∷ l) h = refl
 
@@ -111,7 +107,7 @@ rest_of_take (suc n) m (x ∷ l) h k e = take-append-le (m - 1) l (x ∷ []) (om
 module _ (w c start : ℕ) (memory : List Block) (rings : List Ring) (at : AreaAt w (length memory) c start) (one : 1 ≤ c) where
   -- the client's area in the order of its ring
   abbrev order : List Block
-  order = turned (ring_of rings c).first (area_of w memory c)
+  order = ring_order (ring_of rings c).first (area_of w memory c)
 
   order_length : length order ≡ w
   order_length = length_turned (ring_of rings c).first (area_of w memory c) ∙ length_area w c start memory at
@@ -146,52 +142,48 @@ module _ (w c start : ℕ) (memory : List Block) (rings : List Ring) (at : AreaA
       ap Some (sym g) ∙ first_of_take (ring_of rings c).count order d n (omega (arith, order_length))
 
   -- a ring moved on by one, with one block less
-  first_taken : c - 1 < length rings → (n : ℕ) → n ≡ min (ring_of rings c).count w → 0 < n → blocks_in w memory (set rings (c - 1) (moved_on w n (ring_of rings c))) ≡ taken c (blocks_in w memory rings)
-  first_taken among n e h = fun_ext (λ k. go k (eqb k c) refl)
+  first_taken : c - 1 < length rings → (n : ℕ) → n ≡ min (ring_of rings c).count w → 0 < n → blocks_in w memory (set rings (c - 1) (moved_on w n (ring_of rings c))) ≡ lists_after_next c (blocks_in w memory rings)
+  first_taken among n e h = by_client (blocks_in w memory (set rings (c - 1) (moved_on w n (ring_of rings c)))) (blocks_in w memory rings) c (rest_of (blocks_in w memory rings c)) own (λ k q. other_kept w memory memory rings (moved_on w n (ring_of rings c)) c k one q refl refl)
     where
       own : blocks_in w memory (set rings (c - 1) (moved_on w n (ring_of rings c))) c ≡ rest_of (blocks_in w memory rings c)
       own =
           let g = own_ring (moved_on w n (ring_of rings c)) among in
-          let t : turned (place_at (ring_of rings c).first w 1) (area_of w memory c) ≡ drop 1 order ++ take 1 order = turned_next (area_of w memory c) w (length_area w c start memory at) (ring_of rings c).first (omega arith) in
-          ap (λ (r : Ring). take r.count (turned r.first (area_of w memory c))) g
+          let t : ring_order (place_at (ring_of rings c).first w 1) (area_of w memory c) ≡ drop 1 order ++ take 1 order = turned_next (area_of w memory c) w (length_area w c start memory at) (ring_of rings c).first (omega arith) in
+          ap (λ (r : Ring). take r.count (ring_order r.first (area_of w memory c))) g
           ∙ ap (take (n - 1)) t
           ∙ rest_of_take (ring_of rings c).count n order (omega arith) (omega (arith, order_length)) (omega (arith, order_length))
 
-      go : (k : ℕ) (t : Bool) → eqb k c ≡ t → blocks_in w memory (set rings (c - 1) (moved_on w n (ring_of rings c))) k ≡ cond (eqb k c) (rest_of (blocks_in w memory rings c)) (blocks_in w memory rings k)
-      go k true q = rw (q, eqb-true k c q) own
-      go k false q = rw q (other_kept w memory memory rings (moved_on w n (ring_of rings c)) c k one q refl refl)
-
   -- its place is free for the client
-  first_freed : c - 1 < length rings → (n : ℕ) → n ≡ min (ring_of rings c).count w → 0 < n → holding_in w memory (set rings (c - 1) (moved_on w n (ring_of rings c))) ≡ after_next c (holding_in w memory rings)
+  first_freed : c - 1 < length rings → (n : ℕ) → n ≡ min (ring_of rings c).count w → 0 < n → holding_in w memory (set rings (c - 1) (moved_on w n (ring_of rings c))) ≡ bank_holding_after_next c (holding_in w memory rings)
   first_freed among n e h = holding_by _ _ _ _ (first_taken among n e h) (fun_ext (λ k. go k (eqb k c) refl))
     where
-      some : given (first_of (blocks_in w memory rings c)) ≡ 1
+      some : block_count_given (first_of (blocks_in w memory rings c)) ≡ 1
       some = one_given (blocks_in w memory rings c) (simp length-take (omega (arith, order_length)))
 
-      go : (k : ℕ) (t : Bool) → eqb k c ≡ t → free_in w (length memory) (set rings (c - 1) (moved_on w n (ring_of rings c))) k ≡ free_in w (length memory) rings k + cond (eqb k c) (given (first_of (blocks_in w memory rings c))) 0
+      go : (k : ℕ) (t : Bool) → eqb k c ≡ t → free_in w (length memory) (set rings (c - 1) (moved_on w n (ring_of rings c))) k ≡ free_in w (length memory) rings k + cond (eqb k c) (block_count_given (first_of (blocks_in w memory rings c))) 0
       go k true q = rw (q, some, eqb-true k c q, own_ring (moved_on w n (ring_of rings c)) among, at.width) (omega arith)
       go k false q = rw q (other_free w (length memory) rings (moved_on w n (ring_of rings c)) c k one q ∙ omega arith)
 
   -- a pair written behind the client's last block, where two places are free
-  pair_put : c - 1 < length rings → (a b : Block) → (ring_of rings c).count + 2 ≤ w → Accepted c a b (holding_in w memory rings) (holding_in w (written w start memory (ring_of rings c) a b) (set rings (c - 1) (grown (ring_of rings c)))) × (holding_in w (written w start memory (ring_of rings c) a b) (set rings (c - 1) (grown (ring_of rings c))) ≡ after_put (Ok tt) c a b (holding_in w memory rings))
-  pair_put among a b h = (
+  pair_put : c - 1 < length rings → (pair : Pair) → (ring_of rings c).count + 2 ≤ w → PutAccepted c pair (holding_in w memory rings) (holding_in w (written w start memory (ring_of rings c) pair) (set rings (c - 1) (grown (ring_of rings c)))) × (holding_in w (written w start memory (ring_of rings c) pair) (set rings (c - 1) (grown (ring_of rings c))) ≡ bank_holding_after_put (Ok tt) c pair (holding_in w memory rings))
+  pair_put among pair h = (
     record {
       room = rw at.width (omega arith);
-      appended = fun_ext (λ k. lists k (eqb k c) refl);
+      appended = lists;
       places = rw (own_ring (grown (ring_of rings c)) among, long, at.width) (omega arith);
     },
-    holding_by _ _ _ _ (fun_ext (λ k. lists k (eqb k c) refl)) (fun_ext (λ k. free k (eqb k c) refl)),
+    holding_by _ _ _ _ lists (fun_ext (λ k. free k (eqb k c) refl)),
   )
     where
-      long : length (written w start memory (ring_of rings c) a b) ≡ length memory
+      long : length (written w start memory (ring_of rings c) pair) ≡ length memory
       long = simp length-set
 
-      free : (k : ℕ) (t : Bool) → eqb k c ≡ t → free_in w (length (written w start memory (ring_of rings c) a b)) (set rings (c - 1) (grown (ring_of rings c))) k ≡ free_in w (length memory) rings k - cond (eqb k c) 2 0
+      free : (k : ℕ) (t : Bool) → eqb k c ≡ t → free_in w (length (written w start memory (ring_of rings c) pair)) (set rings (c - 1) (grown (ring_of rings c))) k ≡ free_in w (length memory) rings k - cond (eqb k c) 2 0
       free k true q = rw (q, eqb-true k c q, own_ring (grown (ring_of rings c)) among, long, at.width) (omega arith)
       free k false q = rw (q, long) (other_free w (length memory) rings (grown (ring_of rings c)) c k one q ∙ omega arith)
 
-      at_half : AreaAt w (length (set memory (start + place_at (ring_of rings c).first w (ring_of rings c).count) a)) c start
-      at_half = rw (length-set memory (start + place_at (ring_of rings c).first w (ring_of rings c).count) a) at
+      at_half : AreaAt w (length (set memory (start + place_at (ring_of rings c).first w (ring_of rings c).count) pair.first)) c start
+      at_half = rw (length-set memory (start + place_at (ring_of rings c).first w (ring_of rings c).count) pair.first) at
 
       fit : place_at (ring_of rings c).first w (ring_of rings c).count < w
       fit = place_below (ring_of rings c).first w (ring_of rings c).count (omega arith)
@@ -199,38 +191,37 @@ module _ (w c start : ℕ) (memory : List Block) (rings : List Ring) (at : AreaA
       fit_next : place_at (ring_of rings c).first w ((ring_of rings c).count + 1) < w
       fit_next = place_below (ring_of rings c).first w ((ring_of rings c).count + 1) (omega arith)
 
-      area : area_of w (written w start memory (ring_of rings c) a b) c ≡ set (set (area_of w memory c) (place_at (ring_of rings c).first w (ring_of rings c).count) a) (place_at (ring_of rings c).first w ((ring_of rings c).count + 1)) b
+      area : area_of w (written w start memory (ring_of rings c) pair) c ≡ set (set (area_of w memory c) (place_at (ring_of rings c).first w (ring_of rings c).count) pair.first) (place_at (ring_of rings c).first w ((ring_of rings c).count + 1)) pair.second
       area =
-          area_set w c start (set memory (start + place_at (ring_of rings c).first w (ring_of rings c).count) a) at_half (place_at (ring_of rings c).first w ((ring_of rings c).count + 1)) b fit_next
-          ∙ ap (λ (l : List Block). set l (place_at (ring_of rings c).first w ((ring_of rings c).count + 1)) b) (area_set w c start memory at (place_at (ring_of rings c).first w (ring_of rings c).count) a fit)
+          area_set w c start (set memory (start + place_at (ring_of rings c).first w (ring_of rings c).count) pair.first) at_half (place_at (ring_of rings c).first w ((ring_of rings c).count + 1)) pair.second fit_next
+          ∙ ap (λ (l : List Block). set l (place_at (ring_of rings c).first w ((ring_of rings c).count + 1)) pair.second) (area_set w c start memory at (place_at (ring_of rings c).first w (ring_of rings c).count) pair.first fit)
 
-      half_area : length (set (area_of w memory c) (place_at (ring_of rings c).first w (ring_of rings c).count) a) ≡ w
+      half_area : length (set (area_of w memory c) (place_at (ring_of rings c).first w (ring_of rings c).count) pair.first) ≡ w
       half_area = simp length-set (length_area w c start memory at)
 
-      in_order : turned (ring_of rings c).first (area_of w (written w start memory (ring_of rings c) a b) c) ≡ set (set order (ring_of rings c).count a) ((ring_of rings c).count + 1) b
+      in_order : ring_order (ring_of rings c).first (area_of w (written w start memory (ring_of rings c) pair) c) ≡ set (set order (ring_of rings c).count pair.first) ((ring_of rings c).count + 1) pair.second
       in_order =
-          ap (turned (ring_of rings c).first) area
-          ∙ turned_set (set (area_of w memory c) (place_at (ring_of rings c).first w (ring_of rings c).count) a) w half_area (ring_of rings c).first ((ring_of rings c).count + 1) b (omega arith)
-          ∙ ap (λ (l : List Block). set l ((ring_of rings c).count + 1) b) (turned_set (area_of w memory c) w (length_area w c start memory at) (ring_of rings c).first (ring_of rings c).count a (omega arith))
+          ap (ring_order (ring_of rings c).first) area
+          ∙ turned_set (set (area_of w memory c) (place_at (ring_of rings c).first w (ring_of rings c).count) pair.first) w half_area (ring_of rings c).first ((ring_of rings c).count + 1) pair.second (omega arith)
+          ∙ ap (λ (l : List Block). set l ((ring_of rings c).count + 1) pair.second) (turned_set (area_of w memory c) w (length_area w c start memory at) (ring_of rings c).first (ring_of rings c).count pair.first (omega arith))
 
-      own : blocks_in w (written w start memory (ring_of rings c) a b) (set rings (c - 1) (grown (ring_of rings c))) c ≡ blocks_in w memory rings c ++ (a ∷ b ∷ [])
+      own : blocks_in w (written w start memory (ring_of rings c) pair) (set rings (c - 1) (grown (ring_of rings c))) c ≡ blocks_in w memory rings c ++ pair_blocks pair
       own =
           let two : (ring_of rings c).count + 2 ≡ ((ring_of rings c).count + 1) + 1 = omega arith in
-          ap (λ (r : Ring). take r.count (turned r.first (area_of w (written w start memory (ring_of rings c) a b) c))) (own_ring (grown (ring_of rings c)) among)
+          ap (λ (r : Ring). take r.count (ring_order r.first (area_of w (written w start memory (ring_of rings c) pair) c))) (own_ring (grown (ring_of rings c)) among)
           ∙ ap (take ((ring_of rings c).count + 2)) in_order
-          ∙ ap (λ (m : ℕ). take m (set (set order (ring_of rings c).count a) ((ring_of rings c).count + 1) b)) two
-          ∙ take_more_set (set order (ring_of rings c).count a) ((ring_of rings c).count + 1) b (simp length-set (omega (arith, order_length)))
-          ∙ ap (λ (l : List Block). l ++ (b ∷ [])) (take_more_set order (ring_of rings c).count a (omega (arith, order_length)))
-          ∙ append_assoc (take (ring_of rings c).count order) (a ∷ []) (b ∷ [])
+          ∙ ap (λ (m : ℕ). take m (set (set order (ring_of rings c).count pair.first) ((ring_of rings c).count + 1) pair.second)) two
+          ∙ take_more_set (set order (ring_of rings c).count pair.first) ((ring_of rings c).count + 1) pair.second (simp length-set (omega (arith, order_length)))
+          ∙ ap (λ (l : List Block). l ++ (pair.second ∷ [])) (take_more_set order (ring_of rings c).count pair.first (omega (arith, order_length)))
+          ∙ append_assoc (take (ring_of rings c).count order) (pair.first ∷ []) (pair.second ∷ [])
 
-      kept : (k : ℕ) → eqb k c ≡ false → area_of w (written w start memory (ring_of rings c) a b) k ≡ area_of w memory k
+      kept : (k : ℕ) → eqb k c ≡ false → area_of w (written w start memory (ring_of rings c) pair) k ≡ area_of w memory k
       kept k q =
-          area_kept w c start (set memory (start + place_at (ring_of rings c).first w (ring_of rings c).count) a) at_half (place_at (ring_of rings c).first w ((ring_of rings c).count + 1)) b k fit_next one q
-          ∙ area_kept w c start memory at (place_at (ring_of rings c).first w (ring_of rings c).count) a k fit one q
+          area_kept w c start (set memory (start + place_at (ring_of rings c).first w (ring_of rings c).count) pair.first) at_half (place_at (ring_of rings c).first w ((ring_of rings c).count + 1)) pair.second k fit_next one q
+          ∙ area_kept w c start memory at (place_at (ring_of rings c).first w (ring_of rings c).count) pair.first k fit one q
 
-      lists : (k : ℕ) (t : Bool) → eqb k c ≡ t → blocks_in w (written w start memory (ring_of rings c) a b) (set rings (c - 1) (grown (ring_of rings c))) k ≡ cond (eqb k c) (blocks_in w memory rings c ++ (a ∷ b ∷ [])) (blocks_in w memory rings k)
-      lists k true q = rw (q, eqb-true k c q) own
-      lists k false q = rw q (other_kept w memory (written w start memory (ring_of rings c) a b) rings (grown (ring_of rings c)) c k one q long (kept k q))
+      lists : blocks_in w (written w start memory (ring_of rings c) pair) (set rings (c - 1) (grown (ring_of rings c))) ≡ (λ k. cond (eqb k c) (blocks_in w memory rings c ++ pair_blocks pair) (blocks_in w memory rings k))
+      lists = by_client (blocks_in w (written w start memory (ring_of rings c) pair) (set rings (c - 1) (grown (ring_of rings c)))) (blocks_in w memory rings) c (blocks_in w memory rings c ++ pair_blocks pair) own (λ k q. other_kept w memory (written w start memory (ring_of rings c) pair) rings (grown (ring_of rings c)) c k one q long (kept k q))
 
   -- the same, over what the calls answer
   pub first_read_by : (r : Ring) (i : ℕ) (d : Block) → r ≡ ring_of rings c → i ≡ place_at r.first w 0 → 0 < min r.count w → Some (get_or memory (start + i) d) ≡ first_of (blocks_in w memory rings c)
@@ -238,19 +229,37 @@ module _ (w c start : ℕ) (memory : List Block) (rings : List Ring) (at : AreaA
       let n : (ring_of rings c).count ≡ r.count = ap (λ (r : Ring). r.count) (sym e) in
       ap (λ (j : ℕ). Some (get_or memory (start + j) d)) (f ∙ ap (λ (r : Ring). place_at r.first w 0) e) ∙ first_read d (omega arith) (omega arith)
 
-  pub first_freed_by : c - 1 < length rings → (r : Ring) (i j n : ℕ) → r ≡ ring_of rings c → i ≡ c → j ≡ place_at r.first w 1 → n ≡ min r.count w → 0 < n → holding_in w memory (set rings (i - 1) (record { first = j; count = n - 1 })) ≡ after_next c (holding_in w memory rings)
-  first_freed_by among r i j n e q f m h =
+  -- the rings after a next
+  pub next_rings : (r : Ring) (i j n : ℕ) → r ≡ ring_of rings c → i + 1 ≡ c → j ≡ place_at r.first w 1 → n ≡ min r.count w → set rings i (record { first = j; count = n - 1 }) ≡ set rings (c - 1) (moved_on w (min (ring_of rings c).count w) (ring_of rings c))
+  next_rings r i j n e q f m =
+      let at : i ≡ c - 1 = omega arith in
       let p : j ≡ place_at (ring_of rings c).first w 1 = f ∙ ap (λ (r : Ring). place_at r.first w 1) e in
-      let g : set rings (i - 1) (record { first = j; count = n - 1 }) ≡ set rings (c - 1) (moved_on w n (ring_of rings c)) = cc in
-      ap (holding_in w memory) g ∙ first_freed among n (m ∙ ap (λ (r : Ring). min r.count w) e) h
+      let k : n ≡ min (ring_of rings c).count w = m ∙ ap (λ (r : Ring). min r.count w) e in
+      cc
 
-  pub pair_put_by : c - 1 < length rings → (r : Ring) (i p q : ℕ) (a b : Block) → r ≡ ring_of rings c → i ≡ c → p ≡ place_at r.first w r.count → q ≡ place_at r.first w (r.count + 1) → r.count + 2 ≤ w → Accepted c a b (holding_in w memory rings) (holding_in w (set (set memory (start + p) a) (start + q) b) (set rings (i - 1) (record { first = r.first; count = r.count + 2 }))) × (holding_in w (set (set memory (start + p) a) (start + q) b) (set rings (i - 1) (record { first = r.first; count = r.count + 2 })) ≡ after_put (Ok tt) c a b (holding_in w memory rings))
-  pair_put_by among r i p q a b e s f g h =
+  pub first_freed_by : c - 1 < length rings → (r : Ring) (n : ℕ) (left : List Ring) → r ≡ ring_of rings c → n ≡ min r.count w → 0 < n → left ≡ set rings (c - 1) (moved_on w (min (ring_of rings c).count w) (ring_of rings c)) → holding_in w memory left ≡ bank_holding_after_next c (holding_in w memory rings)
+  first_freed_by among r n left e m h is =
+      let k : n ≡ min (ring_of rings c).count w = m ∙ ap (λ (r : Ring). min r.count w) e in
+      ap (holding_in w memory) is ∙ first_freed among (min (ring_of rings c).count w) refl (omega arith)
+
+  -- the rings and the memory after a put
+  pub put_rings : (r : Ring) (i : ℕ) → r ≡ ring_of rings c → i + 1 ≡ c → set rings i (grown r) ≡ set rings (c - 1) (grown (ring_of rings c))
+  put_rings r i e s = let at : i ≡ c - 1 = omega arith in ap (λ (j : ℕ). set rings j (grown r)) at ∙ ap (λ (r : Ring). set rings (c - 1) (grown r)) e
+
+  pub put_memory : (r : Ring) (p q : ℕ) (pair : Pair) → r ≡ ring_of rings c → p ≡ place_at r.first w r.count → q ≡ place_at r.first w (r.count + 1) → set (set memory (start + p) pair.first) (start + q) pair.second ≡ written w ((c - 1) * w) memory (ring_of rings c) pair
+  put_memory r p q pair e f g =
+      ap (λ (j : ℕ). set (set memory (start + j) pair.first) (start + q) pair.second) f
+      ∙ ap (λ (j : ℕ). set (set memory (start + place_at r.first w r.count) pair.first) (start + j) pair.second) g
+      ∙ ap (λ (r : Ring). written w start memory r pair) e
+      ∙ ap (λ (j : ℕ). written w j memory (ring_of rings c) pair) at.begins
+
+  pub pair_put_by : c - 1 < length rings → (r : Ring) (pair : Pair) (changed : List Block) (left : List Ring) → r ≡ ring_of rings c → r.count + 2 ≤ w → changed ≡ written w ((c - 1) * w) memory (ring_of rings c) pair → left ≡ set rings (c - 1) (grown (ring_of rings c)) → PutAccepted c pair (holding_in w memory rings) (holding_in w changed left) × (holding_in w changed left ≡ bank_holding_after_put (Ok tt) c pair (holding_in w memory rings))
+  pair_put_by among r pair changed left e h is fits =
       let n : (ring_of rings c).count ≡ r.count = ap (λ (r : Ring). r.count) (sym e) in
-      let u : set (set memory (start + p) a) (start + q) b ≡ written w start memory (ring_of rings c) a b = ap (λ (j : ℕ). set (set memory (start + j) a) (start + q) b) f ∙ ap (λ (j : ℕ). set (set memory (start + place_at r.first w r.count) a) (start + j) b) g ∙ ap (λ (r : Ring). written w start memory r a b) e in
-      let v : set rings (i - 1) (grown r) ≡ set rings (c - 1) (grown (ring_of rings c)) = ap (λ (j : ℕ). set rings (j - 1) (grown r)) s ∙ ap (λ (r : Ring). set rings (c - 1) (grown r)) e in
-      let z : holding_in w (set (set memory (start + p) a) (start + q) b) (set rings (i - 1) (grown r)) ≡ holding_in w (written w start memory (ring_of rings c) a b) (set rings (c - 1) (grown (ring_of rings c))) = ap (λ (l : List Block). holding_in w l (set rings (i - 1) (grown r))) u ∙ ap (holding_in w (written w start memory (ring_of rings c) a b)) v in
-      subst (λ (t : Holding). Accepted c a b (holding_in w memory rings) t × (t ≡ after_put (Ok tt) c a b (holding_in w memory rings))) (sym z) (pair_put among a b (omega arith))
+      let z : holding_in w changed left ≡ holding_in w (written w start memory (ring_of rings c) pair) (set rings (c - 1) (grown (ring_of rings c))) =
+      ap (λ (l : List Block). holding_in w l left) (is ∙ ap (λ (j : ℕ). written w j memory (ring_of rings c) pair) (sym at.begins))
+      ∙ ap (holding_in w (written w start memory (ring_of rings c) pair)) fits in
+      subst (λ (t : Holding). PutAccepted c pair (holding_in w memory rings) t × (t ≡ bank_holding_after_put (Ok tt) c pair (holding_in w memory rings))) (sym z) (pair_put among pair (omega arith))
 
 -- no ring has a block yet
 pub new_bank : (w : ℕ) (memory : List Block) → holding_in w memory (replicate 480 (record { first = 0; count = 0 })) ≡ empty_with (width_of w (length memory))
@@ -260,7 +269,7 @@ new_bank w memory = ap (λ (l : Lists). record { held = l; free = free_in w (len
     ring k = ⊎_elim (λ l. get_or-replicate 480 (k - 1) (record { first = 0; count = 0 }) (record { first = 0; count = 0 }) l) (λ l. get_or_past (replicate 480 (record { first = 0; count = 0 })) (k - 1) (record { first = 0; count = 0 }) (simp length-replicate l)) (cases_lt (k - 1) 480)
 
     lists : blocks_in w memory (replicate 480 (record { first = 0; count = 0 })) ≡ (λ _. [])
-    lists = fun_ext (λ k. ap (λ (r : Ring). take r.count (turned r.first (area_of w memory k))) (ring k))
+    lists = fun_ext (λ k. ap (λ (r : Ring). take r.count (ring_order r.first (area_of w memory k))) (ring k))
 
     places : free_in w (length memory) (replicate 480 (record { first = 0; count = 0 })) ≡ width_of w (length memory)
     places = fun_ext (λ k. ap (λ (r : Ring). width_of w (length memory) k - r.count) (ring k) ∙ omega arith)

@@ -1,2 +1,3 @@
 pub mod Ring
 pub mod Lists
+pub mod Whole

@@ -1,13 +1,13 @@
 -- What a bank means: an area of w places for each of the first clients, as many as fit.
-use Rattle.std.specs.Prelude.{◌≡◌, ℕ, ◌+◌, ◌-◌, ◌*◌, ◌/◌, ◌≤◌, min, if◌then◌else◌, List, [], ◌∷◌, ◌++◌, length, take, drop, Ok, Err, Result, ◌==◌, nat_le, slice_index_or}
+use Rattle.std.specs.Prelude.{◌≡◌, ℕ, ◌+◌, ◌-◌, ◌*◌, ◌/◌, ◌≤◌, min, if◌then◌else◌, List, ◌++◌, length, take, drop, Ok, Err, ◌==◌, nat_le, slice_index_or}
 use Rattle.std.specs.Borrow.{GName}
 use Rattle.numbers.specs.Range.{slots}
 use Rattle.block.specs.declared.Block.{Block}
-use Rattle.refusal.specs.declared.Refusal.{Refusal}
-use Rattle.port.specs.Model.{Lists, Holding, updated, first_of, taken, given}
+use Rattle.block.specs.declared.Pair.{Pair}
+use Rattle.port.specs.Model.{Answer, Lists, Holding, block_count_given, first_of, lists_after_next, pair_blocks, updated_lists}
 use Rattle.bank.specs.declared.Ring.{Ring}
 use Rattle.bank.specs.declared.Bank.{Bank}
-use Rattle.bank.specs.Ring.{turned}
+use Rattle.bank.specs.Ring.{ring_order}
 
 -- areas of w places over m lent blocks: as many as fit, none of width 0, and no more than there can be clients
 abbrev pub area_count : ℕ → ℕ → ℕ
@@ -33,7 +33,7 @@ ring_of rings k = slice_index_or rings (k - 1) (record { first = 0; count = 0 })
 
 -- client k's blocks, with areas of w places
 abbrev pub blocks_in : ℕ → List Block → List Ring → Lists
-blocks_in w memory rings k = take (ring_of rings k).count (turned (ring_of rings k).first (area_of w memory k))
+blocks_in w memory rings k = take (ring_of rings k).count (ring_order (ring_of rings k).first (area_of w memory k))
 
 -- client k's free places
 abbrev pub free_in : ℕ → ℕ → List Ring → ℕ → ℕ
@@ -49,19 +49,19 @@ abbrev pub bank_holding : Bank → Holding
 bank_holding bank = record { held = bank_lists bank; free = free_in bank.width (length bank.memory.now) bank.rings }
 
 -- what a bank is to its callers: what it holds, its number of areas, and the name of the loan that its memory is
-pub record Contents : Type 0 where
+pub record BankContents : Type 0 where
   pub holding : Holding
   pub areas : ℕ
   pub lender : GName
 
-abbrev pub contents : Bank → Contents
-contents bank = record { holding = bank_holding bank; areas = bank_areas bank; lender = bank.memory.ghost_name }
+abbrev pub bank_contents : Bank → BankContents
+bank_contents bank = record { holding = bank_holding bank; areas = bank_areas bank; lender = bank.memory.ghost_name }
 
--- after a next for client c: the place of the block that is given is free, for this client
-abbrev pub after_next : ℕ → Holding → Holding
-after_next c h = record { held = taken c h.held; free = λ k. h.free k + (if k == c then given (first_of (h.held c)) else 0) }
+-- what it holds after a next for client c: the place of the block that is given is free, for this client
+abbrev pub bank_holding_after_next : ℕ → Holding → Holding
+bank_holding_after_next c h = record { held = lists_after_next c h.held; free = λ k. h.free k + (if k == c then block_count_given (first_of (h.held c)) else 0) }
 
--- after a put for client c, by its answer: two places fewer are free, for this client
-abbrev pub after_put : Result (Unit {0}) Refusal → ℕ → Block → Block → Holding → Holding
-after_put (Ok _) c a b h = record { held = updated h.held c (h.held c ++ (a ∷ b ∷ [])); free = λ k. h.free k - (if k == c then 2 else 0) }
-after_put (Err _) c a b h = h
+-- and after a put for client c, by its answer: two places fewer are free, for this client
+abbrev pub bank_holding_after_put : Answer → ℕ → Pair → Holding → Holding
+bank_holding_after_put (Ok _) c pair h = record { held = updated_lists h.held c (h.held c ++ pair_blocks pair); free = λ k. h.free k - (if k == c then 2 else 0) }
+bank_holding_after_put (Err _) c pair h = h

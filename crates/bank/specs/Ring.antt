@@ -2,8 +2,8 @@
 use Rattle.std.specs.Prelude.{ℕ, ◌+◌, ◌-◌, if◌then◌else◌, List, ◌++◌, take, drop, nat_lt}
 
 -- an area's places in the order of the ring, whose first place is given
-abbrev pub turned : {X : Type 0} → ℕ → List X → List X
-turned first places = drop first places ++ take first places
+abbrev pub ring_order : {X : Type 0} → ℕ → List X → List X
+ring_order first places = drop first places ++ take first places
 
 -- the first place of a ring of w places; a number that is no place stands for 0
 abbrev pub start_of : ℕ → ℕ → ℕ

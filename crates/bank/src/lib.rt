@@ -4,17 +4,15 @@
 #![tactic(auto)]
 
 ghost use Rattle.std.specs.Prelude.{◌≡◌, ◌≤◌, length, MatchOption};
-ghost use Rattle.port.specs.Model.{Put, empty_with, first_of, taken};
+ghost use Rattle.port.specs.Model.{Put, empty_with, first_of, lists_after_next, put_answer};
 ghost use Rattle.bank.specs.Ring.{place_at};
-ghost use Rattle.bank.specs.Lists.{AreaAt, after_next, after_put, area_count, bank_areas, bank_holding, bank_lists, contents, ring_of, width_of};
+ghost use Rattle.bank.specs.Lists.{AreaAt, area_count, bank_areas, bank_contents, bank_holding, bank_holding_after_next, bank_holding_after_put, bank_lists, ring_of, width_of};
+ghost use Rattle.bank.specs.Whole.{bank_after_next, bank_after_put, new_bank};
 
-use block::Block;
-use numbers::ClientNumber;
+use block::{Block, Pair};
+use numbers::{ClientNumber, SLOTS};
 use port::{Inlet, Outlet, Store};
 use refusal::Refusal;
-
-// Client numbers run from 1 to this number.
-const CLIENTS: usize = 480;
 
 // The blocks of an area: the place of the first, and how many there are.
 // no invariant that it fits its area: each write of the array of rings would owe it for all 480
@@ -44,18 +42,19 @@ impl Ring {
 pub struct Bank<'a> {
     memory: &'a mut [Block],
     width: usize,
-    rings: [Ring; CLIENTS],
+    rings: [Ring; SLOTS],
 }
 
 impl<'a> Bank<'a> {
     /// A bank that holds nothing, with areas of `width` places.
     pub fn new(memory: &'a mut [Block], width: usize) -> Bank<'a>
-        ensures { contents result ≡ record { holding = empty_with (width_of width (length memory.old)); areas = area_count width (length memory.old); lender = memory.entry.ghost_name } }
+        ensures whole { result ≡ new_bank memory.entry width }
+        ensures contents { bank_contents result ≡ record { holding = empty_with (width_of width (length memory.old)); areas = area_count width (length memory.old); lender = memory.entry.ghost_name } }
     {
         Bank {
             memory,
             width,
-            rings: [Ring { first: 0, count: 0 }; CLIENTS],
+            rings: [Ring { first: 0, count: 0 }; SLOTS],
         }
     }
 
@@ -67,7 +66,7 @@ impl<'a> Bank<'a> {
             .len()
             .checked_div(self.width)
             .unwrap_or(0)
-            .min(CLIENTS)
+            .min(SLOTS)
     }
 
     // Where the client's area begins, or none where it has none.
@@ -89,7 +88,7 @@ impl<'a> Bank<'a> {
         ensures value { result ≡ ring_of self.now.rings client }
         ensures range { 1 ≤ client }
     {
-        self.rings[client.number() as usize - 1]
+        self.rings[client.index()]
     }
 }
 
@@ -98,8 +97,9 @@ impl<'a> Inlet for Bank<'a> {
 
     fn next(&mut self, client: ClientNumber) -> Option<Block>
         ensures first { result ≡ first_of (bank_lists self.old client) }
-        ensures rest { bank_lists self.new ≡ taken client (bank_lists self.old) }
-        ensures contents { contents self.new ≡ record (contents self.old) { holding = after_next client (bank_holding self.old) } }
+        ensures rest { bank_lists self.new ≡ lists_after_next client (bank_lists self.old) }
+        ensures contents { bank_contents self.new ≡ record (bank_contents self.old) { holding = bank_holding_after_next client (bank_holding self.old) } }
+        ensures whole { self.new ≡ bank_after_next result client self.old }
     {
         let start = self.area(client)?;
         let ring = self.ring(client);
@@ -108,7 +108,7 @@ impl<'a> Inlet for Bank<'a> {
             return None;
         }
         let block = self.memory[start + ring.place(self.width, 0)];
-        self.rings[client.number() as usize - 1] = Ring {
+        self.rings[client.index()] = Ring {
             first: ring.place(self.width, 1),
             count: count - 1,
         };
@@ -127,9 +127,11 @@ impl<'a> Outlet for Bank<'a> {
         self.width.saturating_sub(self.ring(client).count)
     }
 
-    fn put(&mut self, client: ClientNumber, a: Block, b: Block) -> Result<(), Refusal>
-        ensures put { Put client a b result (bank_holding self.old) (bank_holding self.new) }
-        ensures contents { contents self.new ≡ record (contents self.old) { holding = after_put result client a b (bank_holding self.old) } }
+    fn put(&mut self, client: ClientNumber, pair: Pair) -> Result<(), Refusal>
+        ensures answer { result ≡ put_answer ((bank_holding self.old).free client) }
+        ensures put { Put client pair result (bank_holding self.old) (bank_holding self.new) }
+        ensures contents { bank_contents self.new ≡ record (bank_contents self.old) { holding = bank_holding_after_put result client pair (bank_holding self.old) } }
+        ensures whole { self.new ≡ bank_after_put result client pair self.old }
     {
         let start = self.area(client).ok_or(Refusal::NoFreePlace)?;
         let ring = self.ring(client);
@@ -138,9 +140,9 @@ impl<'a> Outlet for Bank<'a> {
         }
         let p = ring.place(self.width, ring.count);
         let q = ring.place(self.width, ring.count + 1);
-        self.memory[start + p] = a;
-        self.memory[start + q] = b;
-        self.rings[client.number() as usize - 1] = Ring {
+        self.memory[start + p] = pair.first;
+        self.memory[start + q] = pair.second;
+        self.rings[client.index()] = Ring {
             first: ring.first,
             count: ring.count + 2,
         };

@@ -2,5 +2,5 @@
 use Rattle.std.specs.Prelude.{ℕ, ◌+◌, ◌*◌, ◌%◌, ◌^◌}
 
 -- one byte more
-abbrev pub summed : ℕ → ℕ → ℕ
-summed s b = (s * 31 % 2 ^ 64 + b) % 2 ^ 64
+abbrev pub sum_with : ℕ → ℕ → ℕ
+sum_with s b = (s * 31 % 2 ^ 64 + b) % 2 ^ 64

@@ -1,11 +1,13 @@
 //! Measures packing and unpacking: ten thousand payloads each way, each a little other than the one before.
 //! Standard output has the number of blocks moved and a checksum, standard error the time a block took, in hundredths of a nanosecond.
-//! Main promise: the blocks counted are those that were packed and unpacked, and the payload summed up is that of the pairs.
+//! Main promise: `pack_rounds` leaves the payload of the pairs as they then are, `unpack_rounds` the pairs of the payload, and each answers
+//! 9,600,000. That each round packs or unpacks is in no clause, and a body that did so once would meet them: the checksum, which the gate
+//! compares, depends on the rounds.
 #![tactic(auto)]
 
 ghost use Rattle.std.specs.Prelude.{◌≡◌, ◌*◌, fold};
-ghost use Rattle.bench.specs.Filled.{block_of, next, pairs_from};
-ghost use Rattle.bench.specs.Sums.{summed};
+ghost use Rattle.bench.specs.Filled.{counted_block, next, pairs_from};
+ghost use Rattle.bench.specs.Sums.{sum_with};
 ghost use Rattle.payload.specs.Payloads.{pairs_of, payload_of};
 
 use block::{Block, Pair, Sync};
@@ -27,9 +29,9 @@ fn next(x: u64) -> u64
 }
 
 // A block of a number's bits.
-#[tactic(auto, using(crate::proofs::Filling::sync_is), unfolding(crate::specs::Filled::block_of))]
+#[tactic(auto, using(crate::proofs::Filling::sync_is), unfolding(crate::specs::Filled::counted_block))]
 fn block(x: u64) -> Block
-    ensures { result ≡ block_of x }
+    ensures { result ≡ counted_block x }
 {
     Block {
         sync: Sync::from_bits((x >> 3 & 3) as u8),
@@ -52,7 +54,7 @@ fn fill(pairs: &mut [Pair; 480])
     }
 }
 
-// Packs again and again, and answers the number of blocks moved.
+// Packs again and again, and answers the number of blocks that so many rounds move.
 // This and `unpack_rounds` are two, since they differ in the byte changed and in the buffer made: one over a closure has only the count
 // in common.
 fn pack_rounds(pairs: &mut [Pair; 480], payload: &mut Payload) -> u64
@@ -70,7 +72,7 @@ fn pack_rounds(pairs: &mut [Pair; 480], payload: &mut Payload) -> u64
     moved
 }
 
-// Unpacks again and again, and answers the number of blocks moved.
+// Unpacks again and again, and answers the number of blocks that so many rounds move.
 fn unpack_rounds(payload: &mut Payload, pairs: &mut [Pair; 480]) -> u64
     ensures moved { result ≡ 9600000 }
     ensures unpacked { pairs.new ≡ pairs_of payload.new }
@@ -87,7 +89,7 @@ fn unpack_rounds(payload: &mut Payload, pairs: &mut [Pair; 480]) -> u64
 
 // A checksum of the payload, begun with another.
 fn checksum(start: u64, payload: &Payload) -> u64
-    ensures { result ≡ fold summed start payload.now }
+    ensures { result ≡ fold sum_with start payload.now }
 {
     payload.iter().fold(
         start,

@@ -1,5 +1,5 @@
 -- Numbers written in bits, the lowest or the highest digit first: parts, zeros, and numbers turned round.
-use Rattle.std.proofs.Common.{◌≡◌, ℕ, zero, suc, ◌+◌, ◌*◌, ◌/◌, ◌%◌, ◌^◌, ◌<◌, Bool, false, eqb, ◌⊎◌, List, [], ◌∷◌, ◌++◌, length, replicate, sym, refl, ap, ◌∙◌, ap₂, inl, inr, append_assoc, mul_assoc, suc-add, pow-suc, zero-add, div-one, one-add, arith, shr-shr}
+use Rattle.std.proofs.Common.{◌≡◌, ℕ, zero, suc, ◌+◌, ◌*◌, ◌/◌, ◌%◌, ◌^◌, ◌<◌, Bool, false, eqb, ◌⊎◌, List, [], ◌∷◌, ◌++◌, length, replicate, sym, refl, ap, ◌∙◌, ap₂, inl, inr, append_assoc, suc-add, zero-add, div-one, one-add, arith, shr-shr}
 use Rattle.std.proofs.Math.Nat.{zero-div}
 use Rattle.std.proofs.Math.Pow.{field, mod-mod-pow}
 use Rattle.std.specs.Int.{reverse_bits_onto}
@@ -58,19 +58,6 @@ pub high_zeros : (k : ℕ) → high_first k 0 ≡ replicate k false
 unfolding high_first
 high_zeros zero = refl
 high_zeros (suc k) = ap₂ (λ (b : Bool) (l : List Bool). b ∷ l) (ap odd (zero-div (2 ^ k))) (high_zeros k)
-
--- digits above the k lowest are not looked at
-pub low_mod : (k n m : ℕ) → n < 2 ^ k → low_first k (m * 2 ^ k + n) ≡ low_first k n
-unfolding low_first
-low_mod zero n m h = refl
-low_mod (suc k) n m h =
-    ap₂ (λ (b : Bool) (l : List Bool). b ∷ l)
-    (ap (λ (x : ℕ). eqb x 1) (omega (arith, whole)))
-    (ap (low_first k) (let e : (m * 2 ^ suc k + n) / 2 ≡ m * 2 ^ k + n / 2 = omega (arith, whole) in e)
-    ∙ low_mod k (n / 2) m (omega (arith, pow-suc 2 k)))
-  where
-    whole : m * 2 ^ suc k ≡ m * 2 ^ k * 2
-    whole = ap (λ (x : ℕ). m * x) (pow-suc 2 k) ∙ sym (mul_assoc m (2 ^ k) 2)
 
 -- digits above the k lowest are not looked at
 pub high_mod : (k a b : ℕ) → a % 2 ^ k ≡ b % 2 ^ k → high_first k a ≡ high_first k b

@@ -2,7 +2,7 @@
 use Rattle.std.proofs.Common.{◌≡◌, ℕ, zero, suc, ◌+◌, ◌-◌, ◌*◌, ◌/◌, ◌%◌, ◌^◌, ◌<◌, ◌≤◌, min, Bool, true, false, eqb, ◌⊎◌, List, [], ◌∷◌, ◌++◌, length, get_or, take, drop, sym, refl, ap, ◌∙◌, ap₂, inl, inr, ⊎_elim, pow-suc, div-one, arith, shr-shr}
 use Rattle.std.proofs.lemmas.List.{length-append, get_or_append_left, get_or-append-add, drop_more, length-drop, take_all, take_at, drop_at, length-take-le, take-append-drop, nil_from_length}
 use Rattle.std.proofs.lemmas.Bool.{cases_lt}
-use Rattle.bits.specs.Bits.{odd, low_first, bits, field, low_value, packed, Numbered}
+use Rattle.bits.specs.Bits.{odd, low_first, bits, field, low_value, packed_bytes, Numbered}
 use Rattle.bits.proofs.Digits.{digit}
 
 pub length_low : (k n : ℕ) → length (low_first k n) ≡ k
@@ -59,16 +59,16 @@ value_low (suc k) n h =
     (λ (e : n % 2 ≡ 1). ap (λ (x : ℕ). low_value (eqb x 1 ∷ low_first k (n / 2))) e ∙ omega (arith, rest))
     (digit n)
 
-packs : (bytes : List ℕ) → ((i : ℕ) → i < length bytes → get_or bytes i 0 < 256) → packed (length bytes) (bits bytes) ≡ bytes
-unfolding bits packed
+packs : (bytes : List ℕ) → ((i : ℕ) → i < length bytes → get_or bytes i 0 < 256) → packed_bytes (length bytes) (bits bytes) ≡ bytes
+unfolding bits packed_bytes
 packs [] h = refl
 packs (b ∷ bs) h =
     ap₂ (λ (x : ℕ) (xs : List ℕ). x ∷ xs)
     (ap low_value (take_at (low_first 8 b) (bits bs) 8 (length_low 8 b)) ∙ value_low 8 b (h 0 (omega arith)))
-    (ap (packed (length bs)) (drop_at (low_first 8 b) (bits bs) 8 (length_low 8 b)) ∙ packs bs (λ i l. h (suc i) (omega arith)))
+    (ap (packed_bytes (length bs)) (drop_at (low_first 8 b) (bits bs) 8 (length_low 8 b)) ∙ packs bs (λ i l. h (suc i) (omega arith)))
 
-unpacks : (n : ℕ) (bs : List Bool) → length bs ≡ 8 * n → bits (packed n bs) ≡ bs
-unfolding bits packed
+unpacks : (n : ℕ) (bs : List Bool) → length bs ≡ 8 * n → bits (packed_bytes n bs) ≡ bs
+unfolding bits packed_bytes
 unpacks zero bs h = sym (nil_from_length bs h)
 unpacks (suc n) bs h =
     ap₂ (λ (xs ys : List Bool). xs ++ ys)

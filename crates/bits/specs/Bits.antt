@@ -30,15 +30,21 @@ low_value [] = 0
 low_value (true ∷ bs) = 1 + 2 * low_value bs
 low_value (false ∷ bs) = 2 * low_value bs
 
+-- the number that they write, the highest digit first
+abbrev pub high_value : List Bool → ℕ
+high_value [] = 0
+high_value (true ∷ bs) = 2 ^ length bs + high_value bs
+high_value (false ∷ bs) = high_value bs
+
 -- the n bytes that are sent as these bits
-unfoldable pub packed : ℕ → List Bool → List ℕ
-packed zero bs = []
-packed (suc n) bs = low_value (take 8 bs) ∷ packed n (drop 8 bs)
+unfoldable pub packed_bytes : ℕ → List Bool → List ℕ
+packed_bytes zero bs = []
+packed_bytes (suc n) bs = low_value (take 8 bs) ∷ packed_bytes n (drop 8 bs)
 
 -- How the bits of bytes are numbered, and that bits and bytes are each made from the other.
 pub record Numbered : Type 0 where
   -- a byte has eight bits, and bit 8 q + r is the digit of weight 2 ^ r of byte q
   pub eight : (bytes : List ℕ) → length (bits bytes) ≡ 8 * length bytes
   pub places : (bytes : List ℕ) (q r : ℕ) → q < length bytes → r < 8 → slice_index_or (bits bytes) (8 * q + r) false ≡ odd (slice_index bytes q / 2 ^ r)
-  pub packs : (bytes : List ℕ) → ((i : ℕ) → i < length bytes → slice_index bytes i < 256) → packed (length bytes) (bits bytes) ≡ bytes
-  pub unpacks : (n : ℕ) (bs : List Bool) → length bs ≡ 8 * n → bits (packed n bs) ≡ bs
+  pub packs : (bytes : List ℕ) → ((i : ℕ) → i < length bytes → slice_index bytes i < 256) → packed_bytes (length bytes) (bits bytes) ≡ bytes
+  pub unpacks : (n : ℕ) (bs : List Bool) → length bs ≡ 8 * n → bits (packed_bytes n bs) ≡ bs

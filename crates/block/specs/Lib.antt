@@ -3,3 +3,4 @@ pub mod Syncs
 pub mod Fixed
 pub mod Classes
 pub mod Whole
+pub mod Told

@@ -3,13 +3,17 @@
 //! Main promise: `class` answers exactly the class that the definition `class_of` gives the block.
 #![tactic(auto)]
 
-ghost use Rattle.std.specs.Prelude.{◌≡◌, ◌%◌, ◌↔◌, IsTrue};
-ghost use Rattle.block.specs.Classes.{class_of, control_class, end_class, is_end, is_lawful, is_start};
+ghost use Rattle.std.specs.Prelude.{◌≡◌, ◌%◌, ◌<◌, ◌==◌, ◌↔◌, IfSome, IsTrue, position, true};
+ghost use Rattle.block.specs.Classes.{class_of, control_class, end_class, end_types, is_end, is_lawful, is_start, lawful_or_error};
 ghost use Rattle.block.specs.Fixed.{error_block, idle_block, start_block};
 ghost use Rattle.block.specs.Same.{SameDecides, is_same};
-ghost use Rattle.block.specs.Syncs.{FirstBitLowest, sync_number};
+ghost use Rattle.block.specs.Syncs.{FirstBitLowest, sync_number, sync_of};
+ghost use Rattle.block.specs.Told.{ClassesTold};
 ghost use Rattle.std.specs.Cmp.Rules.{comparing};
 ghost use Rattle.std.proofs.Common.{rules};
+
+/// The types of the ends that carry 0 to 7 bytes.
+pub const END_TYPES: [u8; 8] = [0x87, 0x99, 0xAA, 0xB4, 0xCC, 0xD2, 0xE1, 0xFF];
 
 /// The two sync bits, named by what they say; the first bit sent stands first.
 #[repr(u8)]
@@ -91,7 +95,8 @@ impl Sync {
     // Not `From<u8>`, since six of the eight bits are dropped.
     /// The sync bits that the two lowest bits of a number are.
     pub fn from_bits(bits: u8) -> Sync
-        ensures { sync_number result ≡ bits % 4 }
+        ensures sync { result ≡ sync_of bits }
+        ensures number { sync_number result ≡ bits % 4 }
     {
         match bits % 4 {
             0 => Sync::Zeros,
@@ -151,6 +156,14 @@ impl Block {
         !matches!(self.class(), Class::Unlawful)
     }
 
+    /// The block itself, or the error block in place of an unlawful one.
+    pub fn lawful_or_error(self) -> Block
+        ensures block { result ≡ lawful_or_error self }
+        ensures lawful { is_lawful (class_of result) ≡ true }
+    {
+        if self.lawful() { self } else { Block::error() }
+    }
+
     /// Is it a start?
     pub fn is_start(&self) -> bool
         ensures { result ≡ is_start (class_of self.now) }
@@ -183,18 +196,24 @@ fn control_class(bytes: &[u8; 8]) -> Class
 fn end_class(kind: u8) -> Class
     ensures { result ≡ end_class kind }
 {
-    match kind {
-        0x87 => Class::End(0),
-        0x99 => Class::End(1),
-        0xAA => Class::End(2),
-        0xB4 => Class::End(3),
-        0xCC => Class::End(4),
-        0xD2 => Class::End(5),
-        0xE1 => Class::End(6),
-        0xFF => Class::End(7),
-        _ => Class::Unlawful,
+    match end_place(kind) {
+        Some(bytes) => Class::End(bytes as u8),
+        None => Class::Unlawful,
     }
 }
+
+// The place of a type among those of the ends.
+fn end_place(kind: u8) -> Option<usize>
+    ensures value { result ≡ position (λ end. end == kind) end_types }
+    ensures within { IfSome result (λ place. place < 8) }
+{
+    END_TYPES.iter().position(|end| *end == kind)
+}
+
+/// A block has a class exactly if its sync bits and its bytes are those of the class.
+pub fn classes_are_told()
+    ensures { ClassesTold }
+{}
 
 #[cfg(test)]
 mod tests {
@@ -246,6 +265,18 @@ mod tests {
         assert_eq!(rt; Block::idle().class(), Class::Idle);
         assert_eq!(rt; Block::error().class(), Class::Characters);
         assert!(rt; Block::start().is_start());
+    }
+
+    #[test]
+    fn unlawful_replaced(rt: HostRuntime) {
+        let mut block = Block::start();
+        assert_eq!(rt; block.lawful_or_error(), block);
+        block.bytes[0] = 0x33;
+        assert_eq!(rt; block.lawful_or_error(), Block::error());
+        block.sync = Sync::Data;
+        assert_eq!(rt; block.lawful_or_error(), block);
+        block.sync = Sync::Ones;
+        assert_eq!(rt; block.lawful_or_error(), Block::error());
     }
 
     #[test]

@@ -7,16 +7,17 @@ ghost use Rattle.std.specs.Prelude.{◌≡◌, ◌-◌, ◌<◌, ◌≤◌, IfSo
 ghost use Rattle.std.specs.List.{AllPass};
 ghost use Rattle.calendar.specs.Share.{ShareLaw, first_slot, is_client, slot_count};
 ghost use Rattle.numbers.specs.Entries.{entry_of, is_entry};
+ghost use Rattle.numbers.specs.Range.{IsOneTo480, slots};
 
-use numbers::{ClientNumber, SlotNumber};
+use numbers::{ClientNumber, SLOTS, SlotNumber};
 
 /// Which client has which slot. Its facts stand in ghost fields and not in a model, so that a caller's proof has them with no call.
 // No `PartialEq` and no `Debug`: a calendar is read by `client` and `share`, and none is compared or printed.
 #[derive(Clone, Copy)]
 pub struct Calendar {
     // by rising slot
-    entries: [Option<ClientNumber>; 480],
-    ghost full: { length entries ≡ 480 },
+    entries: [Option<ClientNumber>; SLOTS],
+    ghost full: { length entries ≡ slots },
     ghost in_range: { AllPass is_entry entries },
 }
 
@@ -25,10 +26,10 @@ impl Calendar {
 
     /// The calendar with every slot empty.
     pub fn empty() -> Calendar
-        ensures { entries_of result ≡ replicate 480 0 }
+        ensures { entries_of result ≡ replicate slots 0 }
     {
         Calendar {
-            entries: [None; 480],
+            entries: [None; SLOTS],
         }
     }
 
@@ -36,13 +37,16 @@ impl Calendar {
     pub fn client(&self, slot: SlotNumber) -> Option<ClientNumber>
         ensures value { entry_of result ≡ slice_index (entries_of self.now) (slot - 1) }
         ensures range { is_entry result ≡ true }
+        ensures slot_range { IsOneTo480 slot }
     {
         self.entries[slot.index()]
     }
 
     /// Leases a slot to a client.
     pub fn assign(&mut self, slot: SlotNumber, client: ClientNumber)
-        ensures { entries_of self.new ≡ slice_set (entries_of self.old) (slot - 1) client }
+        ensures value { entries_of self.new ≡ slice_set (entries_of self.old) (slot - 1) client }
+        ensures slot_range { IsOneTo480 slot }
+        ensures client_range { IsOneTo480 client }
     {
         let i = slot.index();
         // says of the client what its type keeps, that it is in range
@@ -50,12 +54,13 @@ impl Calendar {
         self.entries[i] = Some(client);
     }
 
-    // A pair, and 0 for none: count and first slot are told together, in the form in which they are printed.
-    /// A client's slot count and its first, the lowest, slot; 0 and 0 if it has none.
+    // A pair, and 0 for none: whoever prints a client's line wants both, and so of one calendar.
+    /// How many slots a client has, and the lowest of them; two zeros where it has none.
     pub fn share(&self, client: ClientNumber) -> (u16, u16)
         ensures count { result.0 ≡ slot_count client (entries_of self.now) }
         ensures first { result.1 ≡ first_slot client (entries_of self.now) }
         ensures law { ShareLaw client (entries_of self.now) result.0 result.1 }
+        ensures client_range { IsOneTo480 client }
     {
         // says of the client what its type keeps, that it is in range
         let _ = client.number();
@@ -69,14 +74,14 @@ impl Calendar {
     // The place of the client's first entry, from 0.
     fn first_index(&self, client: ClientNumber) -> Option<usize>
         ensures value { result ≡ position (is_client client) self.now.entries }
-        ensures within { IfSome result (λ i. i < 480) }
+        ensures within { IfSome result (λ i. i < slots) }
     {
         self.entries.iter().position(|entry| *entry == Some(client))
     }
 
     // How many entries from this place on are the client's.
     fn count_from(&self, place: usize, client: ClientNumber) -> u16
-        requires { place ≤ 480 }
+        requires { place ≤ slots }
         ensures { result ≡ count_by (is_client client) (drop place self.now.entries) }
     {
         let entries = &self.entries[..];
@@ -108,12 +113,9 @@ mod tests {
         let mut calendar = Calendar::empty();
         for lease in leases {
             let client = ClientNumber::try_from(lease.0)?;
-            for number in 1..=480u16 {
-                let slot = SlotNumber::try_from(number)?;
-                if lease.1 <= number && number <= lease.2 {
-                    calendar.assign(slot, client);
-                    assert_eq!(rt; calendar.client(slot), Some(client));
-                }
+            for slot in SlotNumber::try_from(lease.1)?.to(SlotNumber::try_from(lease.2)?) {
+                calendar.assign(slot, client);
+                assert_eq!(rt; calendar.client(slot), Some(client));
             }
         }
         for share in shares {

@@ -1,14 +1,15 @@
 -- One collection of a collector at a time: what a block does to it depends on its own blocks alone.
 use Rattle.std.proofs.Common.{◌≡◌, Bool, true, false, cond, List, [], ◌∷◌, ◌++◌, Some, None, Option, refl, ap, ◌∙◌}
-use Rattle.std.proofs.lemmas.List.{length-set}
 use Rattle.message.specs.declared.Kind.{Kind}
 use Rattle.message.specs.declared.Kind.TheVariants.{Basic, Aps, Cv, OneDm, TwoDmm, TwoDmr, Cs}
 use Rattle.message.specs.declared.MessageBlock.{MessageBlock}
-use Rattle.assembly.specs.Content.{Content}
-use Rattle.collector.specs.State.{State, place_of}
-use Rattle.assembly.specs.Next.{Outcome, broken, going, wrong, whole, next_of, same_kind, left}
-use Rattle.collector.specs.Step.{after, after_kind, after_part, after_basic, collection_of, is_aps, kept, one_mark, basic_content, same, settled, unasked}
-use Rattle.collector.specs.Laws.{Call, gave, asked, goes_kind, goes_to, own, run, Sized}
+use Rattle.collector.specs.Content.{Content}
+use Rattle.collector.specs.State.{State}
+use Rattle.collector.specs.declared.assembly.Outcome.{Outcome}
+use Rattle.collector.specs.declared.assembly.Outcome.TheVariants.{Broken, Incomplete, Corrupt, Whole}
+use Rattle.collector.specs.Outcomes.{next_outcome, same_kind, unfinished_of}
+use Rattle.collector.specs.Step.{after, after_kind, after_part, collection_of, is_aps, kept, one_mark, basic_content, same, settled, unasked}
+use Rattle.collector.specs.Runs.{Call, gave, asked, goes_kind, goes_to, own, run}
 
 abbrev pub coll : Bool → State → Option Content
 coll aps s = cond aps s.aps s.low
@@ -16,7 +17,7 @@ coll aps s = cond aps s.aps s.low
 -- what a block does to a collection
 abbrev pub advance_kind : Bool → Option Kind → Option Content → MessageBlock → Option Content
 advance_kind g None c b = c
-advance_kind g (Some k) c b = cond (goes_kind g (Some k)) (left (next_of k c b)) c
+advance_kind g (Some k) c b = cond (goes_kind g (Some k)) (unfinished_of (next_outcome k c b)) c
 
 abbrev pub advance : Bool → Option Content → MessageBlock → Option Content
 advance g c b = advance_kind g b.kind c b
@@ -25,17 +26,17 @@ abbrev pub advances : Bool → Option Content → List MessageBlock → Option C
 advances g c [] = c
 advances g c (b ∷ bs) = advances g (advance g c b) bs
 
-settled_aps : (k : Kind) (o : Outcome) (s : State) → is_aps k ≡ true → ((settled k o s).aps ≡ left o) × ((settled k o s).low ≡ s.low)
-settled_aps k broken s e = (ap (λ (t : Bool). cond t None s.aps) e, ap (λ (t : Bool). cond t s.low None) e)
-settled_aps k (going u) s e = (ap (λ (t : Bool). cond t (Some u) s.aps) e, ap (λ (t : Bool). cond t s.low (Some u)) e)
-settled_aps k wrong s e = (ap (λ (t : Bool). cond t None s.aps) e, ap (λ (t : Bool). cond t s.low None) e)
-settled_aps k (whole u) s e = (ap (λ (t : Bool). cond t None s.aps) e, ap (λ (t : Bool). cond t s.low None) e)
+settled_aps : (k : Kind) (o : Outcome) (s : State) → is_aps k ≡ true → ((settled k o s).aps ≡ unfinished_of o) × ((settled k o s).low ≡ s.low)
+settled_aps k Broken s e = (ap (λ (t : Bool). cond t None s.aps) e, ap (λ (t : Bool). cond t s.low None) e)
+settled_aps k (Incomplete u) s e = (ap (λ (t : Bool). cond t (Some u) s.aps) e, ap (λ (t : Bool). cond t s.low (Some u)) e)
+settled_aps k Corrupt s e = (ap (λ (t : Bool). cond t None s.aps) e, ap (λ (t : Bool). cond t s.low None) e)
+settled_aps k (Whole u) s e = (ap (λ (t : Bool). cond t None s.aps) e, ap (λ (t : Bool). cond t s.low None) e)
 
-settled_low : (k : Kind) (o : Outcome) (s : State) → is_aps k ≡ false → ((settled k o s).low ≡ left o) × ((settled k o s).aps ≡ s.aps)
-settled_low k broken s e = (ap (λ (t : Bool). cond t s.low None) e, ap (λ (t : Bool). cond t None s.aps) e)
-settled_low k (going u) s e = (ap (λ (t : Bool). cond t s.low (Some u)) e, ap (λ (t : Bool). cond t (Some u) s.aps) e)
-settled_low k wrong s e = (ap (λ (t : Bool). cond t s.low None) e, ap (λ (t : Bool). cond t None s.aps) e)
-settled_low k (whole u) s e = (ap (λ (t : Bool). cond t s.low None) e, ap (λ (t : Bool). cond t None s.aps) e)
+settled_low : (k : Kind) (o : Outcome) (s : State) → is_aps k ≡ false → ((settled k o s).low ≡ unfinished_of o) × ((settled k o s).aps ≡ s.aps)
+settled_low k Broken s e = (ap (λ (t : Bool). cond t s.low None) e, ap (λ (t : Bool). cond t None s.aps) e)
+settled_low k (Incomplete u) s e = (ap (λ (t : Bool). cond t s.low (Some u)) e, ap (λ (t : Bool). cond t (Some u) s.aps) e)
+settled_low k Corrupt s e = (ap (λ (t : Bool). cond t s.low None) e, ap (λ (t : Bool). cond t None s.aps) e)
+settled_low k (Whole u) s e = (ap (λ (t : Bool). cond t s.low None) e, ap (λ (t : Bool). cond t None s.aps) e)
 
 basic_coll : (g : Bool) (s : State) (b : MessageBlock) (t : Bool) → coll g (cond t (kept (basic_content b) s) s) ≡ coll g s
 basic_coll true s b true = refl
@@ -44,16 +45,16 @@ basic_coll false s b true = refl
 basic_coll false s b false = refl
 
 low_kind : (k : Kind) (g : Bool) (s : State) (b : MessageBlock) → is_aps k ≡ false → same_kind k Basic ≡ false
-    → coll g (after_part k s b) ≡ cond (same false g) (left (next_of k s.low b)) (coll g s)
-low_kind k true s b e f = (settled_low k (next_of k (collection_of k s) b) s e).1
+    → coll g (after_part k s b) ≡ cond (same false g) (unfinished_of (next_outcome k s.low b)) (coll g s)
+low_kind k true s b e f = (settled_low k (next_outcome k (collection_of k s) b) s e).1
 low_kind k false s b e f =
-    (settled_low k (next_of k (collection_of k s) b) s e).0 ∙ ap (λ (t : Bool). left (next_of k (cond t s.aps s.low) b)) e
+    (settled_low k (next_outcome k (collection_of k s) b) s e).0 ∙ ap (λ (t : Bool). unfinished_of (next_outcome k (cond t s.aps s.low) b)) e
 
 pub coll_kind : (g : Bool) (o : Option Kind) (s : State) (b : MessageBlock) → coll g (after_kind o s b) ≡ advance_kind g o (coll g s) b
 coll_kind g None s b = refl
 coll_kind g (Some Basic) s b = basic_coll g s b (one_mark b)
-coll_kind true (Some Aps) s b = (settled_aps Aps (next_of Aps s.aps b) s refl).0
-coll_kind false (Some Aps) s b = (settled_aps Aps (next_of Aps s.aps b) s refl).1
+coll_kind true (Some Aps) s b = (settled_aps Aps (next_outcome Aps s.aps b) s refl).0
+coll_kind false (Some Aps) s b = (settled_aps Aps (next_outcome Aps s.aps b) s refl).1
 coll_kind true (Some Cv) s b = low_kind Cv true s b refl refl
 coll_kind false (Some Cv) s b = low_kind Cv false s b refl refl
 coll_kind true (Some OneDm) s b = low_kind OneDm true s b refl refl
@@ -68,7 +69,7 @@ coll_kind false (Some Cs) s b = low_kind Cs false s b refl refl
 -- a block that goes elsewhere changes nothing
 pub advance_other : (g : Bool) (o : Option Kind) (c : Option Content) (b : MessageBlock) → goes_kind g o ≡ false → advance_kind g o c b ≡ c
 advance_other g None c b e = refl
-advance_other g (Some k) c b e = ap (λ (t : Bool). cond t (left (next_of k c b)) c) e
+advance_other g (Some k) c b e = ap (λ (t : Bool). cond t (unfinished_of (next_outcome k c b)) c) e
 
 coll_unasked : (g : Bool) (s : State) → coll g (unasked s) ≡ coll g s
 coll_unasked true s = refl
@@ -107,27 +108,3 @@ pub own_asked : (g : Bool) (cs : List Call) → own g (cs ++ asked ∷ []) ≡ o
 own_asked g [] = refl
 own_asked g (asked ∷ cs) = own_asked g cs
 own_asked g (gave x ∷ cs) = ap (λ (l : List MessageBlock). cond (goes_to g x) (x ∷ l) l) (own_asked g cs)
-
--- there is a place for each kind, always
-sized_settled : (k : Kind) (o : Outcome) (s : State) → Sized s → Sized (settled k o s)
-sized_settled k broken s h = h
-sized_settled k (going u) s h = h
-sized_settled k wrong s h = h
-sized_settled k (whole u) s h = length-set s.kept (place_of u.kind) (Some u) ∙ h
-
-sized_basic : (s : State) (b : MessageBlock) (t : Bool) → Sized s → Sized (cond t (kept (basic_content b) s) s)
-sized_basic s b true h = length-set s.kept 0 (Some (basic_content b)) ∙ h
-sized_basic s b false h = h
-
-sized_kind : (o : Option Kind) (s : State) (b : MessageBlock) → Sized s → Sized (after_kind o s b)
-sized_kind None s b h = h
-sized_kind (Some k) s b h = go (same_kind k Basic)
-  where
-    go : (t : Bool) → Sized (cond t (after_basic s b) (after_part k s b))
-    go true = sized_basic s b (one_mark b) h
-    go false = sized_settled k (next_of k (collection_of k s) b) s h
-
-pub sized_run : (s : State) (cs : List Call) → Sized s → Sized (run s cs)
-sized_run s [] h = h
-sized_run s (gave b ∷ cs) h = sized_run (after s b) cs (sized_kind b.kind s b h)
-sized_run s (asked ∷ cs) h = sized_run (unasked s) cs h

@@ -1,6 +1,12 @@
+pub mod Sizes
+pub mod Extends
 pub mod SameKinds
+pub mod Sounds
 pub mod Collections
-pub mod Settles
 pub mod Wholes
 pub mod Only
+pub mod Faults
+pub mod Undamaged
+pub mod Latest
+pub mod Laws
 pub mod Replies

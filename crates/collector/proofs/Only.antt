@@ -1,39 +1,30 @@
 -- Nothing else is found whole: what a collection holds has come in a row.
-use Rattle.std.proofs.Common.{Ok, ◌≡◌, ℕ, ◌+◌, ◌*◌, ◌≤◌, Bool, true, false, cond, not, ◌&&◌, eqb, List, [], ◌∷◌, ◌++◌, length, Some, None, Option, sym, refl, ap, ◌∙◌, subst, ap₂, append_assoc, arith}
+use Rattle.std.proofs.Common.{Ok, ◌≡◌, ℕ, ◌+◌, ◌*◌, ◌<◌, ◌≤◌, Bool, true, false, cond, not, ◌&&◌, eqb, List, [], ◌∷◌, ◌++◌, length, Some, None, Option, sym, refl, ap, ◌∙◌, subst, ap₂, append_assoc, arith}
 use Rattle.std.proofs.lemmas.List.{append-nil, length-append}
-use Rattle.std.proofs.lemmas.Bool.{eqb-true, ne_eqb}
+use Rattle.std.proofs.lemmas.Bool.{eqb-true, eqb-false, ne_eqb}
 use Rattle.bits.specs.Bits.{bits}
 use Rattle.message.specs.declared.Kind.{Kind}
-use Rattle.message.specs.declared.Kind.TheVariants.{Basic, Aps, Cv, OneDm, TwoDmm, TwoDmr, Cs}
+use Rattle.message.specs.declared.Kind.TheVariants.{Basic}
 use Rattle.message.specs.declared.MessageBlock.{MessageBlock}
-use Rattle.message.specs.Kinds.{blocks_of, code_of, kind_of}
+use Rattle.message.specs.Kinds.{blocks_of}
 use Rattle.message.specs.Blocks.{said}
 use Rattle.message.specs.Values.{crc12}
 use Rattle.message.specs.Written.{parts}
+use Rattle.message.proofs.Writes.{some_blocks}
 use Rattle.collector.specs.declared.Report.{Report}
-use Rattle.assembly.specs.Content.{Content}
+use Rattle.collector.specs.Content.{Content}
 use Rattle.collector.specs.State.{State}
-use Rattle.assembly.specs.Next.{Outcome, broken, going, wrong, whole, continued, extended, followed, judged, next_of, same_kind, left}
+use Rattle.collector.specs.declared.assembly.Outcome.{Outcome}
+use Rattle.collector.specs.declared.assembly.Outcome.TheVariants.{Broken, Incomplete, Corrupt, Whole}
+use Rattle.collector.specs.Outcomes.{continued_outcome, extended_outcome, with_block, marked_outcome, next_outcome, same_kind, unfinished_of}
 use Rattle.collector.specs.Step.{after, found_of, is_aps, new_state, one_mark, report_basic, report_kind, report_of, report_part, same, unasked}
-use Rattle.collector.specs.Laws.{Call, gave, asked, goes_kind, goes_to, own, run, Arrives, Completes, FoundWhole, Laws}
-use Rattle.assembly.proofs.Extends.{last_test}
-use Rattle.collector.proofs.Collections.{coll, advance, advance_kind, advance_other, coll_kind, own_push, own_asked, sized_run}
-use Rattle.collector.proofs.Wholes.{part_at, content, parts_push, change_found, whole_found, written_found}
-
--- kinds with one code are one kind
-pub one_kind : (a b : Kind) → same_kind a b ≡ true → a ≡ b
-one_kind a b e =
-    let s : Some a ≡ Some b = sym (named a) ∙ ap kind_of (eqb-true (code_of a) (code_of b) e) ∙ named b in
-    cc
-  where
-    named : (k : Kind) → kind_of (code_of k) ≡ Some k
-    named Basic = refl
-    named Aps = refl
-    named Cv = refl
-    named OneDm = refl
-    named TwoDmm = refl
-    named TwoDmr = refl
-    named Cs = refl
+use Rattle.collector.specs.Runs.{Call, gave, asked, goes_kind, goes_to, own, run, Arrives, Completes}
+use Rattle.collector.specs.Laws.{FoundWhole}
+use Rattle.collector.proofs.Extends.{last_test}
+use Rattle.collector.proofs.Collections.{coll, advance, advance_kind, advance_other, coll_kind, own_push, own_asked}
+use Rattle.collector.proofs.SameKinds.{one_kind}
+use Rattle.collector.proofs.Sounds.{sound_new}
+use Rattle.collector.proofs.Wholes.{part_at, content, parts_push, whole_found}
 
 -- some blocks end with the first i blocks of a message
 pub record Ends (h : List MessageBlock) (u : Content) (i : ℕ) : Type 0 where
@@ -44,18 +35,18 @@ pub record Ends (h : List MessageBlock) (u : Content) (i : ℕ) : Type 0 where
 -- what a collection holds has come
 abbrev pub Came : List MessageBlock → Option Content → Type 0
 Came h None = Unit {0}
-Came h (Some u) = (i : ℕ) × (1 ≤ i) × Ends h u i
+Came h (Some u) = (i : ℕ) × (1 ≤ i) × Ends h u i × (i < blocks_of u.kind)
 
 -- and what is made of it at a block
 abbrev pub Makes : List MessageBlock → Option Kind → Outcome → Type 0
-Makes h o broken = Unit {0}
-Makes h o (going u) = Came h (Some u)
-Makes h o wrong = Unit {0}
-Makes h o (whole u) = Ends h u (blocks_of u.kind) × (crc12 (bits u.values) ≡ 0) × (o ≡ Some u.kind)
+Makes h o Broken = Unit {0}
+Makes h o (Incomplete u) = Came h (Some u)
+Makes h o Corrupt = (u : Content) × Ends h u (blocks_of u.kind) × (crc12 (bits u.values) ≡ 0 → ⊥) × (o ≡ Some u.kind)
+Makes h o (Whole u) = Ends h u (blocks_of u.kind) × (crc12 (bits u.values) ≡ 0) × (o ≡ Some u.kind)
 
 -- a block behind the first i blocks of its message, with the marks of its place
 behind : (h : List MessageBlock) (u : Content) (i : ℕ) (b : MessageBlock) → Ends h u i → b.kind ≡ Some u.kind
-    → b.starts ≡ eqb i 0 → b.ends ≡ eqb (i + 1) (blocks_of u.kind) → Ends (h ++ b ∷ []) (followed u b) (i + 1)
+    → b.starts ≡ eqb i 0 → b.ends ≡ eqb (i + 1) (blocks_of u.kind) → Ends (h ++ b ∷ []) (with_block u b) (i + 1)
 behind h u i b E e s t =
     let k : Kind = u.kind in
     let kinded : Option Kind → MessageBlock = λ x. record { kind = x; starts = b.starts; ends = b.ends; first = b.first; second = b.second } in
@@ -69,59 +60,61 @@ behind h u i b E e s t =
       long = length-append u.values (b.first ∷ b.second ∷ []) ∙ (let z : length u.values + 2 ≡ 2 * (i + 1) = omega (arith, E.long) in z);
     }
 
-judged_makes : (h : List MessageBlock) (u : Content) (i : ℕ) (b : MessageBlock) (e l : Bool) → Ends h u i → b.kind ≡ Some u.kind
-    → b.starts ≡ eqb i 0 → b.ends ≡ e → eqb (i + 1) (blocks_of u.kind) ≡ l → Makes (h ++ b ∷ []) b.kind (judged (followed u b) e l)
-judged_makes h u i b true true E k s p q = go (eqb (crc12 (bits (followed u b).values)) 0) refl
+judged_makes : (h : List MessageBlock) (u : Content) (i : ℕ) (b : MessageBlock) (e l : Bool) → Ends h u i → i < blocks_of u.kind → b.kind ≡ Some u.kind
+    → b.starts ≡ eqb i 0 → b.ends ≡ e → eqb (i + 1) (blocks_of u.kind) ≡ l → Makes (h ++ b ∷ []) b.kind (marked_outcome (with_block u b) e l)
+judged_makes h u i b true true E f k s p q = go (eqb (crc12 (bits (with_block u b).values)) 0) refl
   where
-    here : Ends (h ++ b ∷ []) (followed u b) (blocks_of u.kind)
-    here = subst (Ends (h ++ b ∷ []) (followed u b)) (eqb-true (i + 1) (blocks_of u.kind) q) (behind h u i b E k s (p ∙ sym q))
+    here : Ends (h ++ b ∷ []) (with_block u b) (blocks_of u.kind)
+    here = subst (Ends (h ++ b ∷ []) (with_block u b)) (eqb-true (i + 1) (blocks_of u.kind) q) (behind h u i b E k s (p ∙ sym q))
 
-    go : (t : Bool) → eqb (crc12 (bits (followed u b).values)) 0 ≡ t → Makes (h ++ b ∷ []) b.kind (cond t (whole (followed u b)) wrong)
-    go true r = (here, eqb-true (crc12 (bits (followed u b).values)) 0 r, k)
-    go false r = tt
-judged_makes h u i b true false E k s p q = tt
-judged_makes h u i b false true E k s p q = tt
-judged_makes h u i b false false E k s p q = (i + 1, omega arith, behind h u i b E k s (p ∙ sym q))
+    go : (t : Bool) → eqb (crc12 (bits (with_block u b).values)) 0 ≡ t → Makes (h ++ b ∷ []) b.kind (cond t (Whole (with_block u b)) Corrupt)
+    go true r = (here, eqb-true (crc12 (bits (with_block u b).values)) 0 r, k)
+    go false r = (with_block u b, here, eqb-false (crc12 (bits (with_block u b).values)) 0 r, k)
+judged_makes h u i b true false E f k s p q = tt
+judged_makes h u i b false true E f k s p q = tt
+judged_makes h u i b false false E f k s p q =
+    let other : i + 1 ≡ blocks_of u.kind → ⊥ = eqb-false (i + 1) (blocks_of u.kind) q in
+    (i + 1, omega arith, behind h u i b E k s (p ∙ sym q), omega arith)
 
-extended_makes : (h : List MessageBlock) (u : Content) (i : ℕ) (b : MessageBlock) → Ends h u i → b.kind ≡ Some u.kind
-    → b.starts ≡ eqb i 0 → Makes (h ++ b ∷ []) b.kind (extended u b)
-extended_makes h u i b E k s =
-    judged_makes h u i b b.ends (eqb (length (followed u b).values) (2 * blocks_of u.kind)) E k s refl
+extended_makes : (h : List MessageBlock) (u : Content) (i : ℕ) (b : MessageBlock) → Ends h u i → i < blocks_of u.kind → b.kind ≡ Some u.kind
+    → b.starts ≡ eqb i 0 → Makes (h ++ b ∷ []) b.kind (extended_outcome u b)
+extended_makes h u i b E f k s =
+    judged_makes h u i b b.ends (eqb (length (with_block u b).values) (2 * blocks_of u.kind)) E f k s refl
     (sym (last_test u.values i (blocks_of u.kind) b.first b.second E.long))
 
 continued_makes : (h : List MessageBlock) (k : Kind) (c : Option Content) (b : MessageBlock) → Came h c → b.kind ≡ Some k
-    → b.starts ≡ false → Makes (h ++ b ∷ []) b.kind (continued k c b)
+    → b.starts ≡ false → Makes (h ++ b ∷ []) b.kind (continued_outcome k c b)
 continued_makes h k None b C e s = tt
 continued_makes h k (Some u) b C e s = go (same_kind u.kind k) refl
   where
-    go : (t : Bool) → same_kind u.kind k ≡ t → Makes (h ++ b ∷ []) b.kind (cond t (extended u b) broken)
+    go : (t : Bool) → same_kind u.kind k ≡ t → Makes (h ++ b ∷ []) b.kind (cond t (extended_outcome u b) Broken)
     go false r = tt
     go true r =
-        extended_makes h u C.0 b C.2 (e ∙ ap (λ (x : Kind). Some x) (sym (one_kind u.kind k r)))
+        extended_makes h u C.0 b C.2 C.3 (e ∙ ap (λ (x : Kind). Some x) (sym (one_kind u.kind k r)))
         (s ∙ sym (ne_eqb C.0 0 (λ (z : C.0 ≡ 0). omega (arith, C.1))))
 
 pub next_makes : (h : List MessageBlock) (k : Kind) (c : Option Content) (b : MessageBlock) → Came h c → b.kind ≡ Some k
-    → Makes (h ++ b ∷ []) b.kind (next_of k c b)
+    → Makes (h ++ b ∷ []) b.kind (next_outcome k c b)
 next_makes h k c b C e = go b.starts refl
   where
     none : Ends h (content k []) 0
     none = record { front = h; is = sym (append-nil h); long = refl }
 
-    go : (t : Bool) → b.starts ≡ t → Makes (h ++ b ∷ []) b.kind (cond t (extended (content k []) b) (continued k c b))
-    go true s = extended_makes h (content k []) 0 b none e s
+    go : (t : Bool) → b.starts ≡ t → Makes (h ++ b ∷ []) b.kind (cond t (extended_outcome (content k []) b) (continued_outcome k c b))
+    go true s = extended_makes h (content k []) 0 b none (some_blocks k) e s
     go false s = continued_makes h k c b C e s
 
-came_left : (h : List MessageBlock) (κ : Option Kind) (o : Outcome) → Makes h κ o → Came h (left o)
-came_left h κ broken M = tt
-came_left h κ (going u) M = M
-came_left h κ wrong M = tt
-came_left h κ (whole u) M = tt
+came_left : (h : List MessageBlock) (κ : Option Kind) (o : Outcome) → Makes h κ o → Came h (unfinished_of o)
+came_left h κ Broken M = tt
+came_left h κ (Incomplete u) M = M
+came_left h κ Corrupt M = tt
+came_left h κ (Whole u) M = tt
 
 came_kind : (g : Bool) (h : List MessageBlock) (c : Option Content) (b : MessageBlock) (o : Option Kind) → b.kind ≡ o → goes_kind g o ≡ true
     → Came h c → Came (h ++ b ∷ []) (advance_kind g o c b)
 came_kind g h c b None e t C = absurd (let z : ◌≡◌ {A = ℕ} 0 1 = cc in omega arith)
 came_kind g h c b (Some k) e t C =
-    subst (λ (x : Bool). Came (h ++ b ∷ []) (cond x (left (next_of k c b)) c)) (sym t) (came_left (h ++ b ∷ []) b.kind (next_of k c b) (next_makes h k c b C e))
+    subst (λ (x : Bool). Came (h ++ b ∷ []) (cond x (unfinished_of (next_outcome k c b)) c)) (sym t) (came_left (h ++ b ∷ []) b.kind (next_outcome k c b) (next_makes h k c b C e))
 
 came_after : (g : Bool) (h : List Call) (s : State) (b : MessageBlock) → Came (own g h) (coll g s) → Came (own g (h ++ gave b ∷ [])) (coll g (after s b))
 came_after g h s b C =
@@ -154,34 +147,34 @@ pub came : (g : Bool) (cs : List Call) → Came (own g cs) (coll g (run new_stat
 came true cs = came_run true [] cs new_state tt
 came false cs = came_run false [] cs new_state tt
 
-same_self : (t : Bool) → same t t ≡ true
+pub same_self : (t : Bool) → same t t ≡ true
 same_self true = refl
 same_self false = refl
 
-completes : (before : List Call) (b : MessageBlock) (k : Kind) (u : Content) → b.kind ≡ Some k → same_kind k Basic ≡ false
-    → Makes (own (is_aps k) before ++ b ∷ []) b.kind (whole u) → Completes before b k u.values
-completes before b k u e f M =
-    let s : Some u.kind ≡ Some k = sym M.2 ∙ e in
+-- the blocks of a message, as they were given
+pub arrives : (before : List Call) (b : MessageBlock) (k : Kind) (u : Content) → b.kind ≡ Some k → same_kind k Basic ≡ false
+    → Ends (own (is_aps k) before ++ b ∷ []) u (blocks_of u.kind) → b.kind ≡ Some u.kind → Arrives before b k u.values
+arrives before b k u e f E o =
+    let s : Some u.kind ≡ Some k = sym o ∙ e in
     let kind : u.kind ≡ k = cc in
     let goes : goes_to (is_aps k) b ≡ true
     = ap (goes_kind (is_aps k)) e ∙ ap₂ (λ (x y : Bool). not x && y) f (same_self (is_aps k)) in
-    let row : Arrives before b k u.values = record {
-      front = M.0.front;
+    record {
+      front = E.front;
       goes = goes;
-      is = own_push (is_aps k) before b true goes ∙ M.0.is ∙ ap (λ (z : Kind). M.0.front ++ parts z u.values) kind;
-      long = M.0.long ∙ ap (λ (z : Kind). 2 * blocks_of z) kind;
-    } in
-    (row, M.1)
+      is = own_push (is_aps k) before b true goes ∙ E.is ∙ ap (λ (z : Kind). E.front ++ parts z u.values) kind;
+      long = E.long ∙ ap (λ (z : Kind). 2 * blocks_of z) kind;
+    }
 
 found_part : (before : List Call) (b : MessageBlock) (k l : Kind) (o : Outcome) → b.kind ≡ Some l → same_kind l Basic ≡ false
     → Makes (own (is_aps l) before ++ b ∷ []) b.kind o → found_of o ≡ Ok (Some k) → (us : List ℕ) × Completes before b k us
-found_part before b k l broken e f M w = absurd (let z : ◌≡◌ {A = ℕ} 0 1 = cc in omega arith)
-found_part before b k l (going u) e f M w = absurd (let z : ◌≡◌ {A = ℕ} 0 1 = cc in omega arith)
-found_part before b k l wrong e f M w = absurd (let z : ◌≡◌ {A = ℕ} 0 1 = cc in omega arith)
-found_part before b k l (whole u) e f M w =
+found_part before b k l Broken e f M w = absurd (let z : ◌≡◌ {A = ℕ} 0 1 = cc in omega arith)
+found_part before b k l (Incomplete u) e f M w = absurd (let z : ◌≡◌ {A = ℕ} 0 1 = cc in omega arith)
+found_part before b k l Corrupt e f M w = absurd (let z : ◌≡◌ {A = ℕ} 0 1 = cc in omega arith)
+found_part before b k l (Whole u) e f M w =
     let s : Some l ≡ Some u.kind = sym e ∙ M.2 in
     let kind : l ≡ k = cc in
-    (u.values, subst (λ (x : Kind). Completes before b x u.values) kind (completes before b l u e f M))
+    (u.values, subst (λ (x : Kind). Completes before b x u.values) kind ((arrives before b l u e f M.0 M.2, M.1)))
 
 no_basic : (b : MessageBlock) (k : Kind) (t : Bool) → (k ≡ Basic → ⊥)
     → (cond {A = Report} t (record { broken = false; found = Ok (Some Basic) }) (record { broken = true; found = Ok None })).found ≡ Ok (Some k) → ⊥
@@ -199,7 +192,7 @@ found_kind before b k (Some l) e w h = go (same_kind l Basic) refl w
     go : (t : Bool) → same_kind l Basic ≡ t → (cond t (report_basic b) (report_part l S b)).found ≡ Ok (Some k) → (us : List ℕ) × Completes before b k us
     go true r v = absurd (no_basic b k (one_mark b) h v)
     go false r v =
-        found_part before b k l (next_of l (coll (is_aps l) S) b) e r
+        found_part before b k l (next_outcome l (coll (is_aps l) S) b) e r
         (next_makes (own (is_aps l) before) l (coll (is_aps l) S) b (came (is_aps l) before) e) v
 
 pub only_whole : (before : List Call) (b : MessageBlock) (k : Kind)
@@ -207,7 +200,4 @@ pub only_whole : (before : List Call) (b : MessageBlock) (k : Kind)
     → (us : List ℕ) × Completes before b k us × FoundWhole new_state before b k us
 only_whole before b k w h =
     let c = found_kind before b k b.kind refl w h in
-    (c.0, c.1, whole_found new_state before b k c.0 refl c.1)
-
-pub laws : Laws
-laws = record { sized = sized_run; whole_found = whole_found; written_found = written_found; change_found = change_found; only_whole = only_whole }
+    (c.0, c.1, whole_found new_state before b k c.0 sound_new c.1)

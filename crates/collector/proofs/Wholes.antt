@@ -8,7 +8,7 @@ use Rattle.crc.proofs.Detect.{detects}
 use Rattle.crc.proofs.Generators.{twelve}
 use Rattle.bits.proofs.Places.{length_bits}
 use Rattle.message.specs.declared.Kind.{Kind}
-use Rattle.message.specs.declared.Kind.TheVariants.{Basic, Aps, Cv, OneDm, TwoDmm, TwoDmr, Cs}
+use Rattle.message.specs.declared.Kind.TheVariants.{Basic, TwoDmm}
 use Rattle.message.specs.declared.MessageBlock.{MessageBlock}
 use Rattle.message.specs.Kinds.{blocks_of}
 use Rattle.message.specs.Blocks.{said}
@@ -18,15 +18,19 @@ use Rattle.message.proofs.Laws.{laws}
 use Rattle.message.proofs.Pairs.{paired_push, take_two}
 use Rattle.message.proofs.Writes.{lawful_length, some_blocks}
 use Rattle.collector.specs.declared.BlockError.TheVariants.{WrongRemainder}
-use Rattle.assembly.specs.Content.{Content}
-use Rattle.collector.specs.State.{State, place_of}
-use Rattle.assembly.specs.Next.{Outcome, broken, wrong, whole, continued, extended, judged, next_of, same_kind, tested, left}
-use Rattle.collector.specs.Step.{after, after_kind, after_part, after_basic, found_of, is_aps, last_of, report_basic, report_kind, report_of, report_part, settled}
-use Rattle.collector.specs.Laws.{Call, gave, goes_kind, goes_to, own, run, Sized, Arrives, Completes, FoundWhole}
-use Rattle.assembly.specs.Sizes.{few_blocks}
-use Rattle.assembly.proofs.Extends.{last_test}
+use Rattle.collector.specs.Content.{Content}
+use Rattle.collector.specs.State.{State, Sound, last_of, place_of}
+use Rattle.collector.specs.declared.assembly.Outcome.{Outcome}
+use Rattle.collector.specs.declared.assembly.Outcome.TheVariants.{Broken, Corrupt, Whole}
+use Rattle.collector.specs.Outcomes.{continued_outcome, extended_outcome, marked_outcome, next_outcome, same_kind, tested_outcome, unfinished_of}
+use Rattle.collector.specs.Step.{after, after_kind, after_part, after_basic, found_of, is_aps, report_basic, report_kind, report_of, report_part, settled}
+use Rattle.collector.specs.Runs.{Call, gave, goes_kind, goes_to, own, run, Arrives, Completes}
+use Rattle.collector.specs.Laws.{FoundWhole}
+use Rattle.collector.proofs.Sizes.{few_blocks}
+use Rattle.collector.proofs.Extends.{last_test}
 use Rattle.collector.proofs.SameKinds.{same_true}
-use Rattle.collector.proofs.Collections.{coll, advance, advances, coll_run, advances_append, run_append, own_push, sized_run}
+use Rattle.collector.proofs.Collections.{coll, advance, advances, coll_run, advances_append, run_append, own_push}
+use Rattle.collector.proofs.Sounds.{place_below, sound_run}
 
 -- the block at place i of a message
 abbrev pub part_at : Kind → ℕ → ℕ → ℕ → MessageBlock
@@ -41,32 +45,32 @@ parts_push k i us a b h =
 
 -- a block joins what has come of its message
 joins : (k : Kind) (us : List ℕ) (c : Option Content) (t e : Bool) (a b : ℕ) → (t ≡ true → us ≡ []) → (t ≡ false → c ≡ Some (content k us))
-    → next_of k c (said k t e a b) ≡ extended (content k us) (said k t e a b)
-joins k us c true e a b p q = ap (λ (vs : List ℕ). extended (content k vs) (said k true e a b)) (sym (p refl))
+    → next_outcome k c (said k t e a b) ≡ extended_outcome (content k us) (said k t e a b)
+joins k us c true e a b p q = ap (λ (vs : List ℕ). extended_outcome (content k vs) (said k true e a b)) (sym (p refl))
 joins k us c false e a b p q =
-    ap (λ (x : Option Content). continued k x (said k false e a b)) (q refl)
-    ∙ ap (λ (t : Bool). cond t (extended (content k us) (said k false e a b)) broken) (same_true k k refl)
+    ap (λ (x : Option Content). continued_outcome k x (said k false e a b)) (q refl)
+    ∙ ap (λ (t : Bool). cond t (extended_outcome (content k us) (said k false e a b)) Broken) (same_true k k refl)
 
 pub joined_part : (k : Kind) (i : ℕ) (us : List ℕ) (c : Option Content) (a b : ℕ) → length us ≡ 2 * i → (1 ≤ i → c ≡ Some (content k us))
-    → next_of k c (part_at k i a b) ≡ judged (content k (us ++ a ∷ b ∷ [])) (eqb (i + 1) (blocks_of k)) (eqb (i + 1) (blocks_of k))
+    → next_outcome k c (part_at k i a b) ≡ marked_outcome (content k (us ++ a ∷ b ∷ [])) (eqb (i + 1) (blocks_of k)) (eqb (i + 1) (blocks_of k))
 joined_part k i us c a b h q =
     joins k us c (eqb i 0) (eqb (i + 1) (blocks_of k)) a b
     (λ e. nil_from_length us (omega (arith, eqb-true i 0 e)))
     (λ e. q (omega (arith, eqb-false i 0 e)))
-    ∙ ap (judged (content k (us ++ a ∷ b ∷ [])) (eqb (i + 1) (blocks_of k))) (last_test us i (blocks_of k) a b h)
+    ∙ ap (marked_outcome (content k (us ++ a ∷ b ∷ [])) (eqb (i + 1) (blocks_of k))) (last_test us i (blocks_of k) a b h)
 
 pub part_advances : (g : Bool) (k : Kind) (i : ℕ) (us : List ℕ) (c : Option Content) (a b : ℕ) → goes_kind g (Some k) ≡ true → length us ≡ 2 * i
     → (1 ≤ i → c ≡ Some (content k us)) → (i + 1 ≡ blocks_of k → ⊥) → advance g c (part_at k i a b) ≡ Some (content k (us ++ a ∷ b ∷ []))
 part_advances g k i us c a b e h q l =
-    ap (λ (t : Bool). cond t (left (next_of k c (part_at k i a b))) c) e
-    ∙ ap left (joined_part k i us c a b h q
-    ∙ ap (λ (t : Bool). judged (content k (us ++ a ∷ b ∷ [])) t t) (ne_eqb (i + 1) (blocks_of k) l))
+    ap (λ (t : Bool). cond t (unfinished_of (next_outcome k c (part_at k i a b))) c) e
+    ∙ ap unfinished_of (joined_part k i us c a b h q
+    ∙ ap (λ (t : Bool). marked_outcome (content k (us ++ a ∷ b ∷ [])) t t) (ne_eqb (i + 1) (blocks_of k) l))
 
 -- before the last block, the collection holds what has come
-pub collected : (g : Bool) (k : Kind) (us : List ℕ) (c : Option Content) → goes_kind g (Some k) ≡ true → length us ≡ 2 * blocks_of k
-    → (i : ℕ) → 1 ≤ i → i < blocks_of k → advances g c (parts k (take (2 * i) us)) ≡ Some (content k (take (2 * i) us))
-collected g k us c e l zero lo hi = absurd (omega arith)
-collected g k us c e l (suc j) lo hi =
+pub collected : (g : Bool) (k : Kind) (us : List ℕ) (c : Option Content) → goes_kind g (Some k) ≡ true
+    → (i : ℕ) → 2 * i ≤ length us → 1 ≤ i → i < blocks_of k → advances g c (parts k (take (2 * i) us)) ≡ Some (content k (take (2 * i) us))
+collected g k us c e zero l lo hi = absurd (omega arith)
+collected g k us c e (suc j) l lo hi =
     let more : take (2 * suc j) us ≡ take (2 * j) us ++ get_or us (2 * j) 0 ∷ get_or us (2 * j + 1) 0 ∷ []
     = ap (λ (n : ℕ). take (2 * n) us) (let z : suc j ≡ j + 1 = omega arith in z) ∙ take_two us j (omega arith) in
     let len : length (take (2 * j) us) ≡ 2 * j = length-take-le (2 * j) us (omega arith) in
@@ -74,25 +78,16 @@ collected g k us c e l (suc j) lo hi =
     ∙ ap (advances g c) (parts_push k j (take (2 * j) us) (get_or us (2 * j) 0) (get_or us (2 * j + 1) 0) len)
     ∙ advances_append g c (parts k (take (2 * j) us)) (part_at k j (get_or us (2 * j) 0) (get_or us (2 * j + 1) 0) ∷ [])
     ∙ part_advances g k j (take (2 * j) us) (advances g c (parts k (take (2 * j) us))) (get_or us (2 * j) 0) (get_or us (2 * j + 1) 0) e len
-    (λ lo'. collected g k us c e l j lo' (omega arith)) (omega arith)
+    (λ lo'. collected g k us c e j (omega arith) lo' (omega arith)) (omega arith)
     ∙ ap (λ (vs : List ℕ). Some (content k vs)) (sym more)
 
 -- what goes to a collection is not basic
 pub not_basic : (g : Bool) (k : Kind) → goes_kind g (Some k) ≡ true → same_kind k Basic ≡ false
 not_basic g k e = not-true (same_kind k Basic) (and_parts (not (same_kind k Basic)) _ e).0
 
-pub place_below : (k : Kind) → place_of k < 7
-place_below Basic = omega arith
-place_below Aps = omega arith
-place_below Cv = omega arith
-place_below OneDm = omega arith
-place_below TwoDmm = omega arith
-place_below TwoDmr = omega arith
-place_below Cs = omega arith
-
 -- a block that makes a message whole
-pub whole_part : (s : State) (b : MessageBlock) (k : Kind) (us : List ℕ) → Sized s → b.kind ≡ Some k → same_kind k Basic ≡ false
-    → next_of k (coll (is_aps k) s) b ≡ whole (content k us)
+pub whole_part : (s : State) (b : MessageBlock) (k : Kind) (us : List ℕ) → Sound s → b.kind ≡ Some k → same_kind k Basic ≡ false
+    → next_outcome k (coll (is_aps k) s) b ≡ Whole (content k us)
     → ((report_of s b).found ≡ Ok (Some k)) × (last_of k (after s b) ≡ Some (content k us)) × (k ≡ TwoDmm → (after s b).question ≡ Some (take 8 us))
 whole_part s b k us h e f o = (
   ap (λ (x : Option Kind). (report_kind x s b).found) e
@@ -101,7 +96,7 @@ whole_part s b k us h e f o = (
   ap (λ (x : Option Kind). last_of k (after_kind x s b)) e
       ∙ ap (λ (t : Bool). last_of k (cond t (after_basic s b) (after_part k s b))) f
       ∙ ap (λ (x : Outcome). last_of k (settled k x s)) o
-      ∙ get_or-set_same s.kept (place_of k) (Some (content k us)) None (omega (arith, place_below k)),
+      ∙ get_or-set_same s.kept (place_of k) (Some (content k us)) None (omega (arith, place_below k, h.places)),
   λ d. ap (λ (x : Option Kind). (after_kind x s b).question) e
       ∙ ap (λ (t : Bool). (cond t (after_basic s b) (after_part k s b)).question) f
       ∙ ap (λ (x : Outcome). (settled k x s).question) o
@@ -112,7 +107,7 @@ whole_part s b k us h e f o = (
 pub record Tested (s : State) (b : MessageBlock) (k : Kind) (us : List ℕ) : Type 0 where
   pub kind : b.kind ≡ Some k
   pub other : same_kind k Basic ≡ false
-  pub next : next_of k (coll (is_aps k) s) b ≡ tested (content k us)
+  pub next : next_outcome k (coll (is_aps k) s) b ≡ tested_outcome (content k us)
 
 pub arrived : (s : State) (before : List Call) (b : MessageBlock) (k : Kind) (us : List ℕ) → Arrives before b k us → Tested (run s before) b k us
 arrived s before b k us h =
@@ -141,19 +136,19 @@ arrived s before b k us h =
     record {
       kind = kind;
       other = not_basic g k goes;
-      next = ap (next_of k c) is
-          ∙ joined_part k m us' c x y len' (λ lo. there ∙ collected g k us (advances g (coll g s) front) goes len m lo (omega arith))
-          ∙ ap (λ (t : Bool). judged (content k (us' ++ x ∷ y ∷ [])) t t) (eq-eqb (m + 1) (blocks_of k) (omega arith))
-          ∙ ap (λ (vs : List ℕ). tested (content k vs)) (sym split);
+      next = ap (next_outcome k c) is
+          ∙ joined_part k m us' c x y len' (λ lo. there ∙ collected g k us (advances g (coll g s) front) goes m (omega arith) lo (omega arith))
+          ∙ ap (λ (t : Bool). marked_outcome (content k (us' ++ x ∷ y ∷ [])) t t) (eq-eqb (m + 1) (blocks_of k) (omega arith))
+          ∙ ap (λ (vs : List ℕ). tested_outcome (content k vs)) (sym split);
     }
 
 pub whole_found : (s : State) (before : List Call) (b : MessageBlock) (k : Kind) (us : List ℕ)
-    → Sized s → Completes before b k us → FoundWhole s before b k us
+    → Sound s → Completes before b k us → FoundWhole s before b k us
 whole_found s before b k us sized h =
     let T : Tested (run s before) b k us = arrived s before b k us h.0 in
-    let next : next_of k (coll (is_aps k) (run s before)) b ≡ whole (content k us)
-    = T.next ∙ ap (λ (t : Bool). cond t (whole (content k us)) wrong) (eq-eqb (crc12 (bits us)) 0 h.1) in
-    let both = whole_part (run s before) b k us (sized_run s before sized) T.kind T.other next in
+    let next : next_outcome k (coll (is_aps k) (run s before)) b ≡ Whole (content k us)
+    = T.next ∙ ap (λ (t : Bool). cond t (Whole (content k us)) Corrupt) (eq-eqb (crc12 (bits us)) 0 h.1) in
+    let both = whole_part (run s before) b k us (sound_run s before sized) T.kind T.other next in
     let at : run s (before ++ gave b ∷ []) ≡ after (run s before) b = run_append s before (gave b ∷ []) in
     record {
       found = both.0;
@@ -161,23 +156,29 @@ whole_found s before b k us sized h =
       waits = λ d. ap (λ (x : State). x.question) at ∙ both.2 d;
     }
 
+-- a message whose blocks have come in a row and leave another remainder
+pub corrupt_found : (s : State) (before : List Call) (b : MessageBlock) (k : Kind) (ws : List ℕ)
+    → Arrives before b k ws → (crc12 (bits ws) ≡ 0 → ⊥) → (report_of (run s before) b).found ≡ Err WrongRemainder
+corrupt_found s before b k ws h bad =
+    let S : State = run s before in
+    let T : Tested S b k ws = arrived s before b k ws h in
+    ap (λ (x : Option Kind). (report_kind x S b).found) T.kind
+    ∙ ap (λ (t : Bool). (cond t (report_basic b) (report_part k S b)).found) T.other
+    ∙ ap found_of (T.next ∙ ap (λ (t : Bool). cond t (Whole (content k ws)) Corrupt) (ne_eqb (crc12 (bits ws)) 0 bad))
+
 pub change_found : (s : State) (before : List Call) (b : MessageBlock) (k : Kind) (us ws : List ℕ)
     → Arrives before b k ws → length us ≡ length ws → crc12 (bits us) ≡ 0
     → 0 < weight (xors (bits us) (bits ws)) → weight (xors (bits us) (bits ws)) ≤ 3
     → (report_of (run s before) b).found ≡ Err WrongRemainder
 change_found s before b k us ws h l e lo hi =
-    let S : State = run s before in
-    let T : Tested S b k ws = arrived s before b k ws h in
-    let bad : crc12 (bits ws) ≡ 0 → ⊥ = λ z.
+    corrupt_found s before b k ws h
+    (λ z.
     (detects 12 0x180F 2047 twelve).0 (bits us) (bits ws)
     (length_bits us ∙ ap (λ (n : ℕ). 8 * n) l ∙ sym (length_bits ws))
-    (omega (arith, length_bits us, l, h.long, few_blocks k)) e z lo hi in
-    ap (λ (x : Option Kind). (report_kind x S b).found) T.kind
-    ∙ ap (λ (t : Bool). (cond t (report_basic b) (report_part k S b)).found) T.other
-    ∙ ap found_of (T.next ∙ ap (λ (t : Bool). cond t (whole (content k ws)) wrong) (ne_eqb (crc12 (bits ws)) 0 bad))
+    (omega (arith, length_bits us, l, h.long, few_blocks k)) e z lo hi)
 
 pub written_found : (s : State) (before : List Call) (front : List MessageBlock) (b : MessageBlock) (k : Kind) (vs : List ℕ)
-    → Sized s → lawful k vs ≡ true → goes_to (is_aps k) b ≡ true
+    → Sound s → lawful k vs ≡ true → goes_to (is_aps k) b ≡ true
     → own (is_aps k) (before ++ gave b ∷ []) ≡ front ++ reads (message_blocks k (filled vs))
     → FoundWhole s before b k (filled vs)
 written_found s before front b k vs sized law goes e =

@@ -1,58 +1,19 @@
--- What is reported whole: exactly the messages whose blocks came in a row for their collection.
-use Rattle.std.specs.Prelude.{◌≡◌, ℕ, ◌*◌, ◌<◌, ◌≤◌, Bool, true, false, if◌then◌else◌, not, ◌&&◌, List, [], ◌∷◌, ◌++◌, length, take, Some, None, Ok, Err, Option, ◌≢◌}
+-- What is reported of blocks, and what a collector holds after them, in terms of the messages that they are of.
+use Rattle.std.specs.Prelude.{◌≡◌, ◌↔◌, ℕ, ◌<◌, ◌≤◌, true, false, List, [], ◌∷◌, ◌++◌, length, take, Some, None, Ok, Err, ◌≢◌}
+use Rattle.std.specs.List.{All}
 use Rattle.bits.specs.Bits.{bits}
 use Rattle.crc.specs.Laws.{weight, xors}
 use Rattle.message.specs.declared.Kind.{Kind}
 use Rattle.message.specs.declared.Kind.TheVariants.{Basic, TwoDmm}
 use Rattle.message.specs.declared.MessageBlock.{MessageBlock}
-use Rattle.message.specs.Kinds.{blocks_of}
 use Rattle.message.specs.Values.{crc12, filled, lawful}
-use Rattle.message.specs.Written.{message_blocks, parts, reads}
-use Rattle.collector.specs.declared.BlockError.TheVariants.{WrongRemainder}
-use Rattle.assembly.specs.Next.{same_kind}
-use Rattle.collector.specs.State.{State}
-use Rattle.collector.specs.Step.{after, is_aps, last_of, new_state, report_of, same, unasked}
-
--- whether a block goes to the collection of protection messages (true) or to that of low priority ones (false);
--- basic messages and unknown kinds go to neither
-abbrev pub goes_kind : Bool → Option Kind → Bool
-goes_kind aps None = false
-goes_kind aps (Some k) = not (same_kind k Basic) && same (is_aps k) aps
-
-abbrev pub goes_to : Bool → MessageBlock → Bool
-goes_to aps b = goes_kind aps b.kind
-
--- the calls that change a collector: a block is given, or the question collected
-pub data Call : Type 0 where
-  gave : MessageBlock → Call
-  asked : Call
-
--- the blocks that go to one collection, in their order
-abbrev pub own : Bool → List Call → List MessageBlock
-own aps [] = []
-own aps (gave b ∷ cs) = if goes_to aps b then b ∷ own aps cs else own aps cs
-own aps (asked ∷ cs) = own aps cs
-
--- what a collector holds after some calls
-abbrev pub run : State → List Call → State
-run s [] = s
-run s (gave b ∷ cs) = run (after s b) cs
-run s (asked ∷ cs) = run (unasked s) cs
-
--- as a program can hold it: a place for each kind
-abbrev pub Sized : State → Type 0
-Sized s = length s.kept ≡ 7
-
--- The blocks given for the collection of k, the last one b included, end with those of a message of kind k with these values.
-pub record Arrives (before : List Call) (b : MessageBlock) (k : Kind) (us : List ℕ) : Type 0 where
-  pub front : List MessageBlock
-  pub goes : goes_to (is_aps k) b ≡ true
-  pub is : own (is_aps k) (before ++ gave b ∷ []) ≡ front ++ parts k us
-  pub long : length us ≡ 2 * blocks_of k
-
--- And these leave the remainder 0.
-abbrev pub Completes : List Call → MessageBlock → Kind → List ℕ → Type 0
-Completes before b k us = Arrives before b k us × (crc12 (bits us) ≡ 0)
+use Rattle.message.specs.Written.{message_blocks, reads}
+use Rattle.collector.specs.declared.BlockError.TheVariants.{WrongRemainder, UnknownCode}
+use Rattle.collector.specs.Content.{Content}
+use Rattle.collector.specs.Faults.{faults_of}
+use Rattle.collector.specs.State.{State, Sound, last_of}
+use Rattle.collector.specs.Step.{is_aps, new_state, report_of, same}
+use Rattle.collector.specs.Runs.{Arrives, ArrivesCorrupt, Call, Completes, Follows, IsLatest, IsWaiting, MakesWhole, Undamaged, Woven, gave, goes_to, own, reports, run}
 
 -- b, taken after some calls, is reported to make a message of kind k whole, which is then the last of its kind;
 -- one of two-way delay then waits as the question
@@ -61,16 +22,18 @@ pub record FoundWhole (s : State) (before : List Call) (b : MessageBlock) (k : K
   pub last : last_of k (run s (before ++ gave b ∷ [])) ≡ Some (record { kind = k; values = us })
   pub waits : k ≡ TwoDmm → (run s (before ++ gave b ∷ [])).question ≡ Some (take 8 us)
 
+-- What is reported whole: exactly the messages whose blocks came in a row for their collection.
 pub record Laws : Type 0 where
-  -- a collector never loses a place
-  pub sized : (s : State) (cs : List Call) → Sized s → Sized (run s cs)
-  -- From any state, and with any blocks of basic messages, unknown kinds or the other collection, and questions collected, between its own,
+  -- what holds of every collector still holds after some calls
+  pub sound : (s : State) (cs : List Call) → Sound s → Sound (run s cs)
+  -- In whatever sound state the blocks begin, with any blocks of basic messages, unknown kinds or the other collection, and questions
+  -- collected, between its own,
   -- a message whose blocks have come in a row is found whole at its last block, with its values.
   pub whole_found : (s : State) (before : List Call) (b : MessageBlock) (k : Kind) (us : List ℕ)
-      → Sized s → Completes before b k us → FoundWhole s before b k us
+      → Sound s → Completes before b k us → FoundWhole s before b k us
   -- So is what the writer makes of lawful values.
   pub written_found : (s : State) (before : List Call) (front : List MessageBlock) (b : MessageBlock) (k : Kind) (vs : List ℕ)
-      → Sized s → lawful k vs ≡ true → goes_to (is_aps k) b ≡ true
+      → Sound s → lawful k vs ≡ true → goes_to (is_aps k) b ≡ true
       → own (is_aps k) (before ++ gave b ∷ []) ≡ front ++ reads (message_blocks k (filled vs))
       → FoundWhole s before b k (filled vs)
   -- If one to three of its value bits, the remainder's included, were changed on the way, it is found to have a wrong remainder.
@@ -78,7 +41,36 @@ pub record Laws : Type 0 where
       → Arrives before b k ws → length us ≡ length ws → crc12 (bits us) ≡ 0
       → 0 < weight (xors (bits us) (bits ws)) → weight (xors (bits us) (bits ws)) ≤ 3
       → (report_of (run s before) b).found ≡ Err WrongRemainder
-  -- A new collector reports no other message whole but a basic one.
+  -- A new collector reports a message whole exactly where its last block makes it so.
+  pub whole_exactly : (before : List Call) (b : MessageBlock) (k : Kind)
+      → ((report_of (run new_state before) b).found ≡ Ok (Some k)) ↔ ((us : List ℕ) × MakesWhole before b k us)
+  -- So it reports no other message whole but a basic one.
   pub only_whole : (before : List Call) (b : MessageBlock) (k : Kind)
       → (report_of (run new_state before) b).found ≡ Ok (Some k) → (k ≢ Basic)
       → (us : List ℕ) × Completes before b k us × FoundWhole new_state before b k us
+
+-- When each fault is reported.
+pub record FaultLaws : Type 0 where
+  -- P3 of a block of a kind that is collected: exactly if it does not follow what has come to a new collector
+  pub sequence : (before : List Call) (b : MessageBlock) (k : Kind) → b.kind ≡ Some k → k ≢ Basic
+      → ((report_of (run new_state before) b).broken ≡ false) ↔ Follows before b k
+  -- P3 of a basic message: exactly if its marks are alike; of an unknown kind: never
+  pub basic_sequence : (s : State) (b : MessageBlock) → b.kind ≡ Some Basic → (report_of s b).broken ≡ same b.starts b.ends
+  pub unknown_sequence : (s : State) (b : MessageBlock) → b.kind ≡ None → (report_of s b).broken ≡ false
+  -- P1: exactly at the last block of a message whose blocks have come in a row to a new collector and leave another remainder than 0
+  pub remainder : (before : List Call) (b : MessageBlock)
+      → ((report_of (run new_state before) b).found ≡ Err WrongRemainder) ↔ ArrivesCorrupt before b
+  -- P2: exactly for unknown kinds
+  pub unknown : (s : State) (b : MessageBlock) → ((report_of s b).found ≡ Err UnknownCode) ↔ (b.kind ≡ None)
+  -- None at all of messages that come undamaged to a new collector, woven in any order that keeps that of each collection.
+  pub undamaged : (cs : List Call) (protection low : List Content)
+      → Woven cs protection low → All (λ r. faults_of r ≡ None ∷ None ∷ []) (reports new_state cs)
+  -- What the writer makes of lawful values is undamaged.
+  pub written_undamaged : (k : Kind) (vs : List ℕ) → lawful k vs ≡ true → Undamaged (record { kind = k; values = filled vs })
+
+-- What a new collector holds after some calls.
+pub record LatestLaws : Type 0 where
+  -- the last message of a kind is the latest that was whole, if one was
+  pub last : (cs : List Call) (k : Kind) → IsLatest cs k (last_of k (run new_state cs))
+  -- the question that waits is the latest whole one since the last that was collected, if there is one
+  pub waits : (cs : List Call) → IsWaiting cs (run new_state cs).question

@@ -1,10 +1,11 @@
 -- What a collector holds, as lists of value bytes.
-use Rattle.std.specs.Prelude.{ℕ, List, Option}
+use Rattle.std.specs.Prelude.{◌≡◌, ℕ, ◌*◌, List, length, None, Option, IfSome, slice_index_or}
 use Rattle.message.specs.declared.Kind.{Kind}
 use Rattle.message.specs.declared.Kind.TheVariants.{Basic, Aps, Cv, OneDm, TwoDmm, TwoDmr, Cs}
-use Rattle.assembly.specs.Content.{Content}
+use Rattle.message.specs.Kinds.{blocks_of}
+use Rattle.collector.specs.Content.{Content, IsPart}
 
--- the two collections, the last whole message of each kind, and the time of the question that waits
+-- the message that each collection has begun, if one; by kind, the message that came whole last; when the waiting question was sent
 pub record State : Type 0 where
   pub aps : Option Content
   pub low : Option Content
@@ -20,3 +21,24 @@ place_of OneDm = 3
 place_of TwoDmm = 4
 place_of TwoDmr = 5
 place_of Cs = 6
+
+-- the last whole message of a kind
+abbrev pub last_of : Kind → State → Option Content
+last_of k s = slice_index_or s.kept (place_of k) None
+
+-- all value bytes of a message of kind k
+pub record IsFull (k : Kind) (m : Content) : Type 0 where
+  pub kind : m.kind ≡ k
+  pub long : length m.values ≡ 2 * blocks_of k
+
+-- What holds of every collector.
+pub record Sound (s : State) : Type 0 where
+  -- there is a place for each kind
+  pub places : length s.kept ≡ 7
+  -- a message that is collected lacks blocks
+  pub aps_part : IfSome s.aps IsPart
+  pub low_part : IfSome s.low IsPart
+  -- the last message of a kind is of that kind and whole
+  pub last_full : (k : Kind) → IfSome (last_of k s) (IsFull k)
+  -- a time has eight bytes
+  pub time_long : IfSome s.question (λ t. length t ≡ 8)

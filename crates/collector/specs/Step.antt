@@ -1,13 +1,15 @@
 -- What a collector does at a message block, and what it reports.
-use Rattle.std.specs.Prelude.{Bool, true, false, if◌then◌else◌, not, ◌&&◌, ◌||◌, [], ◌∷◌, take, replicate, is_some, Some, None, Ok, Err, Option, Result, slice_index_or, slice_set}
+use Rattle.std.specs.Prelude.{Bool, true, false, if◌then◌else◌, not, ◌&&◌, ◌||◌, [], ◌∷◌, take, replicate, is_some, Some, None, Ok, Err, Option, Result, slice_set}
 use Rattle.message.specs.declared.Kind.{Kind}
 use Rattle.message.specs.declared.Kind.TheVariants.{Basic, Aps, TwoDmm}
 use Rattle.message.specs.declared.MessageBlock.{MessageBlock}
 use Rattle.collector.specs.declared.Report.{Report}
 use Rattle.collector.specs.declared.BlockError.{BlockError}
 use Rattle.collector.specs.declared.BlockError.TheVariants.{WrongRemainder, UnknownCode}
-use Rattle.assembly.specs.Content.{Content}
-use Rattle.assembly.specs.Next.{Outcome, broken, going, wrong, whole, next_of, same_kind}
+use Rattle.collector.specs.Content.{Content}
+use Rattle.collector.specs.declared.assembly.Outcome.{Outcome}
+use Rattle.collector.specs.declared.assembly.Outcome.TheVariants.{Broken, Incomplete, Corrupt, Whole}
+use Rattle.collector.specs.Outcomes.{next_outcome, same_kind}
 use Rattle.collector.specs.State.{State, place_of}
 
 abbrev pub same : Bool → Bool → Bool
@@ -33,7 +35,8 @@ held k c s = record {
   question = s.question;
 }
 
--- the last whole message of its kind; one of two-way delay waits as a question, in place of an earlier one
+-- A whole message replaces the one kept of its kind. Of a two-way delay message the time is kept as well, as the waiting question: only
+-- the newest is worth an answer, so a question that still waits is replaced.
 abbrev pub kept : Content → State → State
 kept u s = record {
   aps = s.aps;
@@ -43,31 +46,31 @@ kept u s = record {
 }
 
 abbrev pub settled : Kind → Outcome → State → State
-settled k broken s = held k None s
-settled k (going u) s = held k (Some u) s
-settled k wrong s = held k None s
-settled k (whole u) s = kept u (held k None s)
+settled k Broken s = held k None s
+settled k (Incomplete u) s = held k (Some u) s
+settled k Corrupt s = held k None s
+settled k (Whole u) s = kept u (held k None s)
 
 -- the kind of the message that is whole, if one is, or the fault
 abbrev pub found_of : Outcome → Result (Option Kind) BlockError
-found_of broken = Ok None
-found_of (going u) = Ok None
-found_of wrong = Err WrongRemainder
-found_of (whole u) = Ok (Some u.kind)
+found_of Broken = Ok None
+found_of (Incomplete u) = Ok None
+found_of Corrupt = Err WrongRemainder
+found_of (Whole u) = Ok (Some u.kind)
 
 abbrev pub is_broken : Outcome → Bool
-is_broken broken = true
-is_broken (going u) = false
-is_broken wrong = false
-is_broken (whole u) = false
+is_broken Broken = true
+is_broken (Incomplete u) = false
+is_broken Corrupt = false
+is_broken (Whole u) = false
 
 -- a block of a kind that is collected
 abbrev pub after_part : Kind → State → MessageBlock → State
-after_part k s b = settled k (next_of k (collection_of k s) b) s
+after_part k s b = settled k (next_outcome k (collection_of k s) b) s
 
 abbrev pub report_part : Kind → State → MessageBlock → Report
 report_part k s b =
-    let o : Outcome = next_of k (collection_of k s) b in
+    let o : Outcome = next_outcome k (collection_of k s) b in
     record { broken = (b.starts && is_some (collection_of k s)) || is_broken o; found = found_of o }
 
 -- a basic message has exactly one mark, and disturbs no collection
@@ -97,10 +100,6 @@ report_kind (Some k) s b = if same_kind k Basic then report_basic b else report_
 
 abbrev pub report_of : State → MessageBlock → Report
 report_of s b = report_kind b.kind s b
-
--- the last whole message of a kind
-abbrev pub last_of : Kind → State → Option Content
-last_of k s = slice_index_or s.kept (place_of k) None
 
 -- once the question has been handed out, none waits
 abbrev pub unasked : State → State

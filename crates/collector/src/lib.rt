@@ -3,16 +3,19 @@
 //! Main promise: `take` does and reports exactly what the definitions `after` and `report_of` say, whose laws are in `Laws`.
 #![tactic(auto)]
 
-ghost use Rattle.std.specs.Prelude.{◌≡◌, IfSome, IsFalse, Some};
+ghost use Rattle.std.specs.Prelude.{◌≡◌, IfSome, IsFalse, Some, length};
 ghost use Rattle.std.specs.Option.{option_map};
 ghost use Rattle.collector.specs.Faults.{fault_from, fault_number, fault_text, faults_of};
-ghost use Rattle.collector.specs.Laws.{Laws};
-ghost use Rattle.collector.specs.State.{place_of};
-ghost use Rattle.collector.specs.Step.{after, after_basic, after_part, collection_of, held, kept, last_of, new_state, report_basic, report_of, report_part, unasked};
+ghost use Rattle.collector.specs.Laws.{FaultLaws, LatestLaws, Laws};
+ghost use Rattle.collector.specs.Content.{IsPart};
+ghost use Rattle.collector.specs.State.{IsFull, Sound, last_of, place_of};
+ghost use Rattle.collector.specs.Step.{after, after_basic, after_part, collection_of, held, kept, new_state, report_basic, report_of, report_part, unasked};
 
+mod assembly;
 mod question;
 
-use assembly::{AssemblyError, Message, Unfinished};
+pub use assembly::Message;
+use assembly::{Outcome, Unfinished};
 use message::{Kind, MessageBlock};
 pub use question::{Answers, Question};
 use std::fmt;
@@ -59,7 +62,7 @@ pub struct Report {
     pub found: Result<Option<Kind>, BlockError>,
 }
 
-/// The two collections, the last whole message of each kind, and the time of the question that waits.
+/// What has come of a message in each of the two collections, the message that came whole last by kind, and the question that waits.
 /// It cannot be copied, so that no question is handed out twice.
 #[derive(Drop)]
 pub struct Collector {
@@ -70,11 +73,13 @@ pub struct Collector {
 }
 
 impl Model for Collector {
-    ghost use Rattle.collector.specs.State.{State};
+    ghost use Rattle.collector.specs.State.{Sound, State};
 
     ghost Value = { State };
 
     ghost view = { λ c. record { aps = c.aps; low = c.low; kept = c.kept; question = c.question } };
+
+    ghost invariant = { λ c. Sound (record { aps = c.aps; low = c.low; kept = c.kept; question = c.question }) };
 }
 
 // The place of a kind among the messages kept; an array by kind, since there is no heap here for a map.
@@ -136,7 +141,10 @@ impl Collector {
     /// A collector to which no block has come.
     pub fn new() -> Collector
         ensures state { result ≡ new_state }
+        ensures sound { Sound result }
         ensures laws { Laws }
+        ensures faults { FaultLaws }
+        ensures latest { LatestLaws }
     {
         Collector {
             aps: None,
@@ -150,7 +158,10 @@ impl Collector {
     pub fn take(&mut self, block: MessageBlock) -> Report
         ensures state { self.new ≡ after self.old block }
         ensures report { result ≡ report_of self.old block }
+        ensures sound { Sound self.old }
     {
+        // names a field, so that what holds of every collector is known here
+        let _ = &self.question;
         match block.kind {
             None => Report::new(false, Err(BlockError::UnknownCode)),
             Some(Kind::Basic) => self.take_basic(block),
@@ -160,7 +171,9 @@ impl Collector {
 
     /// The last whole message of a kind.
     pub fn last(&self, kind: Kind) -> Option<Message>
-        ensures { result ≡ last_of kind self.now }
+        ensures last { result ≡ last_of kind self.now }
+        ensures full { IfSome result (IsFull kind) }
+        ensures sound { Sound self.now }
     {
         let index = place(kind);
         self.kept[index]
@@ -169,8 +182,10 @@ impl Collector {
     /// Hands out the question that waits, if one does. It is still to be answered or declined.
     pub fn collect(&mut self) -> Option<Question>
         ensures question { option_map (λ q. q.time) result ≡ self.old.question }
+        ensures long { IfSome result (λ q. length q.time ≡ 8) }
         ensures open { IfSome result (λ q. IsFalse q.settled) }
         ensures state { self.new ≡ unasked self.old }
+        ensures sound { Sound self.old }
     {
         let time = self.question.take()?;
         Some(Question::ask(time))
@@ -193,24 +208,18 @@ impl Collector {
         ensures state { self.new ≡ after_part kind self.old block }
         ensures report { result ≡ report_part kind self.old block }
     {
-        let mut collection = self.collection(kind);
+        let collection = self.collection(kind);
         let broken = block.starts && collection.is_some();
-        let found = assembly::take(&mut collection, kind, block);
-        self.hold(kind, collection);
-        match found {
-            // in two steps: what a nested pattern `Ok(Some(message))` gives could not be cited in the answer
-            Ok(whole) => {
-                let Some(message) = whole else {
-                    return Report::new(broken, Ok(None));
-                };
+        let outcome = assembly::next(collection, kind, block);
+        self.hold(kind, outcome.unfinished());
+        match outcome {
+            Outcome::Broken => Report::new(true, Ok(None)),
+            Outcome::Incomplete(_) => Report::new(broken, Ok(None)),
+            Outcome::Corrupt => Report::new(broken, Err(BlockError::WrongRemainder)),
+            Outcome::Whole(message) => {
                 self.keep(message);
                 Report::new(broken, Ok(Some(message.kind())))
             }
-            Err(AssemblyError::OutOfSequence) => Report::new(true, Ok(None)),
-            Err(AssemblyError::WrongRemainder) => Report::new(
-                broken,
-                Err(BlockError::WrongRemainder),
-            ),
         }
     }
 
@@ -225,6 +234,7 @@ impl Collector {
     }
 
     fn hold(&mut self, kind: Kind, unfinished: Option<Unfinished>)
+        requires { IfSome unfinished IsPart }
         ensures { self.new ≡ held kind unfinished self.old }
     {
         if kind == Kind::Aps {
@@ -236,6 +246,7 @@ impl Collector {
 
     // Keeps a whole message as the last of its kind; one of two-way delay waits as a question too.
     fn keep(&mut self, message: Message)
+        requires { IsFull message.kind message }
         ensures { self.new ≡ kept message self.old }
     {
         let kind = message.kind();

@@ -1,6 +1,6 @@
 //! A question of two-way delay that a collector has handed out.
 //! It can be neither dropped unsettled nor used twice: a value of this type has to be answered or declined, for it is dropped only once it is settled.
-ghost use Rattle.std.specs.Prelude.{◌≡◌, ℕ, List, Ok, Err, IfErr, IsFalse, IsTrue, OnOk, Result};
+ghost use Rattle.std.specs.Prelude.{◌≡◌, ℕ, List, Ok, Err, IfErr, IsFalse, IsTrue, OnOk, Result, length};
 ghost use Rattle.refusal.specs.declared.Refusal.{Refusal as Cause};
 ghost use Rattle.collector.specs.Reply.{reply_values, RepliesLawful};
 
@@ -80,6 +80,7 @@ impl Question {
         ensures taken { OnOk result (S.left sender.old (reply_values self.time received sent) (Ok tt) sender.new) }
         ensures refused { IfErr result (λ e. S.left sender.old (reply_values self.time received sent) (Err e.0) sender.new) }
         ensures back { IfErr result (λ e. e.1 ≡ self) }
+        ensures long { length self.time ≡ 8 }
         ensures lawful { RepliesLawful }
     {
         match sender.leave(&reply_values(&self.time, &received, &sent)) {

@@ -1,12 +1,13 @@
 -- Changes of few bits and bursts leave a remainder: one argument over the degree, the generator and the length.
 use Rattle.std.proofs.Common.{◌≡◌, ℕ, zero, suc, ◌+◌, ◌-◌, ◌*◌, ◌/◌, ◌%◌, ◌^◌, ◌<◌, ◌≤◌, Bool, true, false, List, [], ◌∷◌, ◌++◌, length, replicate, sym, refl, ap, ◌∙◌, ap₂, add-zero, add-suc, suc-add, pow-suc, zero-add, zero-mul, div-one, arith, pow_pos}
 use Rattle.std.proofs.Math.Nat.{eq_of_mul-eq-mul_right}
-use Rattle.std.specs.Int.Bits.{bit_xor, xor_self, xor_zero_r, xor_shifted}
+use Rattle.std.specs.Int.Bits.{bit_xor, xor_self, xor_zero_r}
 use Rattle.std.specs.Int.Count.{ones}
 use Rattle.std.proofs.Math.Pow.{pow-lt}
-use Rattle.crc.specs.Remainder.{step, reduce, run, remainder}
-use Rattle.crc.specs.Laws.{value, xors, weight, power, Detecting, Few, Burst, Detects}
-use Rattle.crc.proofs.Laws.{run_xor, run-++, run_parity, step_xor, step_zero, leading, shift_zero, back, value_lt, xor_over, reduce_small}
+use Rattle.bits.specs.Bits.{high_value}
+use Rattle.crc.specs.Remainder.{step, reduce, remainder_onto, remainder}
+use Rattle.crc.specs.Laws.{times, xors, weight, power, Detecting, Few, Burst, Detects}
+use Rattle.crc.proofs.Laws.{onto_xor, onto-append, onto_parity, step_xor, step_zero, leading, shift_zero, back, xor_over, reduce_small, times_one}
 use Rattle.crc.proofs.Division.{length_xors}
 
 ones_zero : ones 0 ≡ 0
@@ -18,10 +19,9 @@ unfolding ones
 ones_one = refl
 
 -- bits that write 0 are all 0
-no_bits : (bs : List Bool) → value bs ≡ 0 → weight bs ≡ 0
+no_bits : (bs : List Bool) → high_value bs ≡ 0 → weight bs ≡ 0
 no_bits [] e = refl
-no_bits (true ∷ bs) e =
-    absurd (omega (arith, pow_pos (length bs), xor_shifted 1 (length bs) (value bs) (value_lt bs)))
+no_bits (true ∷ bs) e = absurd (omega (arith, pow_pos (length bs)))
 no_bits (false ∷ bs) e = no_bits bs e
 
 zero_factor : (a b : ℕ) → 0 < b → a * b ≡ 0 → a ≡ 0
@@ -46,7 +46,7 @@ module _ (w G n : ℕ) (good : Detecting w G n) where
       (step_xor w G r s false false ∙ ap (λ (x : ℕ). bit_xor x (step w G s false)) e ∙ xor_self (step w G s false)))
 
   -- no more changes: a register that is not 0 stays so
-  stays : (e : List Bool) (r : ℕ) → weight e ≡ 0 → run w G r e ≡ 0 → r ≡ 0
+  stays : (e : List Bool) (r : ℕ) → weight e ≡ 0 → remainder_onto w G r e ≡ 0 → r ≡ 0
   stays [] r h z = z
   stays (true ∷ e) r h z = absurd (omega arith)
   stays (false ∷ e) r h z = zero_shift r (stays e (step w G r false) h z)
@@ -86,26 +86,26 @@ module _ (w G n : ℕ) (good : Detecting w G n) where
       ∙ xor_over (power w G (suc (w + k))) (step w G 0 true) 0 sum
       ∙ first_power)
 
-  second : (e : List Bool) (k : ℕ) → weight e ≡ 1 → k + length e < n → run w G (power w G (w + k)) e ≡ 0 → ⊥
+  second : (e : List Bool) (k : ℕ) → weight e ≡ 1 → k + length e < n → remainder_onto w G (power w G (w + k)) e ≡ 0 → ⊥
   second [] k h l z = absurd (omega arith)
   second (true ∷ e) k h l z =
       good.order (suc k) (omega arith) (omega arith) (returns k (stays e (step w G (power w G (w + k)) true) (omega arith) z))
   second (false ∷ e) k h l z =
-      second e (suc k) h (omega arith) (ap (λ (x : ℕ). run w G (power w G x) e) (add-suc w k) ∙ z)
+      second e (suc k) h (omega arith) (ap (λ (x : ℕ). remainder_onto w G (power w G x) e) (add-suc w k) ∙ z)
 
-  two : (e : List Bool) → weight e ≡ 2 → length e ≤ n → run w G 0 e ≡ 0 → ⊥
+  two : (e : List Bool) → weight e ≡ 2 → length e ≤ n → remainder_onto w G 0 e ≡ 0 → ⊥
   two [] h l z = absurd (omega arith)
   two (true ∷ e) h l z =
       second e 0 (omega arith) (omega arith)
-      (ap (λ (x : ℕ). run w G x e) (ap (power w G) (add-zero w) ∙ sym first_power) ∙ z)
-  two (false ∷ e) h l z = two e h (omega arith) (sym (ap (λ (x : ℕ). run w G x e) (step_zero w G)) ∙ z)
+      (ap (λ (x : ℕ). remainder_onto w G x e) (ap (power w G) (add-zero w) ∙ sym first_power) ∙ z)
+  two (false ∷ e) h l z = two e h (omega arith) (sym (ap (λ (x : ℕ). remainder_onto w G x e) (step_zero w G)) ∙ z)
 
   -- one or three changes leave an odd number of terms
-  pattern : (e : List Bool) → 0 < weight e → weight e ≤ 3 → length e ≤ n → run w G 0 e ≡ 0 → ⊥
+  pattern : (e : List Bool) → 0 < weight e → weight e ≤ 3 → length e ≤ n → remainder_onto w G 0 e ≡ 0 → ⊥
   pattern e h k l z = go (weight e) refl
     where
       even : weight e % 2 ≡ 0
-      even = omega (arith, run_parity w G e 0 good.even, ap (λ (x : ℕ). ones x % 2) z, ones_zero)
+      even = omega (arith, onto_parity w G e 0 good.even, ap (λ (x : ℕ). ones x % 2) z, ones_zero)
 
       go : (m : ℕ) → weight e ≡ m → ⊥
       go zero q = omega arith
@@ -115,25 +115,25 @@ module _ (w G n : ℕ) (good : Detecting w G n) where
       go (suc (suc (suc (suc m)))) q = omega arith
 
   differ_zero : (s t : List Bool) → length s ≡ length t → remainder w G s ≡ 0 → remainder w G t ≡ 0 → remainder w G (xors s t) ≡ 0
-  differ_zero s t l p q = run_xor w G s t 0 0 l ∙ ap₂ bit_xor p q
+  differ_zero s t l p q = onto_xor w G s t 0 0 l ∙ ap₂ bit_xor p q
 
-  trailing : (k r : ℕ) → run w G r (replicate k false) ≡ 0 → r ≡ 0
+  trailing : (k r : ℕ) → remainder_onto w G r (replicate k false) ≡ 0 → r ≡ 0
   trailing zero r z = z
   trailing (suc k) r z = zero_shift r (trailing k (step w G r false) z)
 
-  burst_zero : (b : List Bool) → length b ≤ w → 0 < weight b → run w G 0 b ≡ 0 → ⊥
+  burst_zero : (b : List Bool) → length b ≤ w → 0 < weight b → remainder_onto w G 0 b ≡ 0 → ⊥
   burst_zero b l h z =
-      let e : 0 ≡ value b * 2 ^ (w - length b) = back w G b (w - length b) 0 good.constant (omega arith) z in
-      omega (arith, no_bits b (zero_factor (value b) (2 ^ (w - length b)) (pow_pos (w - length b)) (sym e)))
+      let e : 0 ≡ times b 1 * 2 ^ (w - length b) = back w G b (w - length b) 0 good.constant (omega arith) z in
+      omega (arith, no_bits b (sym (times_one b) ∙ zero_factor (times b 1) (2 ^ (w - length b)) (pow_pos (w - length b)) (sym e)))
 
   few : Few w G n
   few s t l b p q h k = pattern (xors s t) h k (omega (arith, length_xors s t l)) (differ_zero s t l p q)
 
   burst : Burst w G
   burst s t i k b l e lb wb p q =
-      let z : run w G 0 (b ++ replicate k false) ≡ 0 = sym (leading w G i (b ++ replicate k false)) ∙ ap (remainder w G) (sym e) ∙ differ_zero s t l p q in
-      let z' : run w G (run w G 0 b) (replicate k false) ≡ 0 = sym (run-++ w G b (replicate k false) 0) ∙ z in
-      burst_zero b lb wb (trailing k (run w G 0 b) z')
+      let z : remainder_onto w G 0 (b ++ replicate k false) ≡ 0 = sym (leading w G i (b ++ replicate k false)) ∙ ap (remainder w G) (sym e) ∙ differ_zero s t l p q in
+      let z' : remainder_onto w G (remainder_onto w G 0 b) (replicate k false) ≡ 0 = sym (onto-append w G b (replicate k false) 0) ∙ z in
+      burst_zero b lb wb (trailing k (remainder_onto w G 0 b) z')
 
   pub detects : Detects w G n
   detects = (few, burst)

@@ -4,8 +4,8 @@ use Rattle.std.proofs.Math.Nat.{div-eq_of_lt, mul-div-mul_right}
 use Rattle.std.specs.Int.Bits.{bit_xor, xor_assoc, xor_self}
 use Rattle.std.proofs.lemmas.Nat.{xor_comm, xor_shr, xor_lt}
 use Rattle.crc.specs.Remainder.{scale}
-use Rattle.crc.specs.Laws.{times, Divided, xors, weight, Laws}
-use Rattle.crc.proofs.Laws.{xor4, xor_over, scale_xor, run_xor, leading, appended, only_appended, divides}
+use Rattle.crc.specs.Laws.{times, Divided, xors, weight, DivisionLaws}
+use Rattle.crc.proofs.Laws.{xor4, xor_over, scale_xor, onto_xor, leading, appended, only_appended, divides}
 
 pub length_xors : (s t : List Bool) → length s ≡ length t → length (xors s t) ≡ length s
 length_xors [] t h = refl
@@ -79,12 +79,12 @@ unique w G bs r s g a b =
     same zero h d k = xor_over r s 0 (sym d ∙ none (xors a.0 b.0) G h)
     same (suc n) h d k = absurd (omega (arith, big w G (xors a.0 b.0) g (omega arith)))
 
-pub laws : (w G : ℕ) → G / 2 ^ w ≡ 1 → Laws w G
+pub laws : (w G : ℕ) → G / 2 ^ w ≡ 1 → DivisionLaws w G
 laws w G g =
     record {
       divides = λ bs. divides w G bs g;
       unique = λ bs r s. unique w G bs r s g;
-      linear = λ bs cs h. run_xor w G bs cs 0 0 h;
+      linear = λ bs cs h. onto_xor w G bs cs 0 0 h;
       leading = leading w G;
       appended = λ bs. appended w G bs g;
       only = λ bs cs. only_appended w G bs cs;

@@ -1,14 +1,15 @@
 -- Laws of cyclic remainders, over every width and generator.
 use Rattle.std.proofs.Common.{◌≡◌, ℕ, zero, suc, ◌+◌, ◌*◌, ◌/◌, ◌%◌, ◌^◌, ◌<◌, Bool, true, false, eqb, ◌⊎◌, List, [], ◌∷◌, ◌++◌, length, replicate, sym, refl, ap, ◌∙◌, subst, ap₂, inl, inr, add-zero, mod-lt, mod-eq_of_lt, mul_assoc, mul_comm, div-lt_iff_lt-mul, one-mul, pow-suc, zero-add, zero-mul, mul-one, one-add, arith, lit<, pow_pos, pow-add, shl_lt, shr_lt}
 use Rattle.std.proofs.Math.Nat.{zero-div, zero-mod, mul-mod_left, eq_of_mul-eq-mul_right, div-eq_of_lt, pow-succ'}
-use Rattle.std.proofs.lemmas.Nat.{shr_high, mod_low, xor_comm, xor_shr, xor_mod, xor_lt, xor_block, mod-pow-add, ones_cat}
+use Rattle.std.proofs.lemmas.Nat.{xor_comm, xor_shr, xor_mod, xor_lt, xor_block, mod-pow-add, ones_cat}
 use Rattle.std.specs.Int.Bits.{bit_xor, xor_assoc, xor_self, xor_zero_r, xor_shifted, shifted_even}
 use Rattle.std.proofs.Math.Arith.{bin_ind}
 use Rattle.std.specs.Int.Count.{ones, ones_step}
-use Rattle.bits.specs.Bits.{odd, high_first}
-use Rattle.bits.proofs.Digits.{digit, high_mod}
-use Rattle.crc.specs.Remainder.{scale, reduce, step, run, remainder}
-use Rattle.crc.specs.Laws.{times, value, Divided, xorb, xors, weight}
+use Rattle.bits.specs.Bits.{odd, high_first, high_value}
+use Rattle.bits.proofs.Values.{high_value_is, value_lt}
+use Rattle.bits.proofs.Digits.{digit}
+use Rattle.crc.specs.Remainder.{scale, reduce, step, remainder_onto, remainder}
+use Rattle.crc.specs.Laws.{times, Divided, xorb, xors, weight}
 
 -- ---- sums
 
@@ -63,27 +64,27 @@ step_xor w G r s b c =
     ∙ reduce_xor w G (bit_xor (r * 2) (scale b (2 ^ w))) (bit_xor (s * 2) (scale c (2 ^ w)))
 
 -- ---- linearity
-pub run_xor : (w G : ℕ) (xs bs : List Bool) (r s : ℕ) → length xs ≡ length bs
-    → run w G (bit_xor r s) (xors xs bs) ≡ bit_xor (run w G r xs) (run w G s bs)
-run_xor w G [] [] r s h = refl
-run_xor w G [] (b ∷ bs) r s h = absurd (omega arith)
-run_xor w G (a ∷ xs) [] r s h = absurd (omega arith)
-run_xor w G (a ∷ xs) (b ∷ bs) r s h =
-    ap (λ (x : ℕ). run w G x (xors xs bs)) (step_xor w G r s a b)
-    ∙ run_xor w G xs bs (step w G r a) (step w G s b) (omega arith)
+pub onto_xor : (w G : ℕ) (xs bs : List Bool) (r s : ℕ) → length xs ≡ length bs
+    → remainder_onto w G (bit_xor r s) (xors xs bs) ≡ bit_xor (remainder_onto w G r xs) (remainder_onto w G s bs)
+onto_xor w G [] [] r s h = refl
+onto_xor w G [] (b ∷ bs) r s h = absurd (omega arith)
+onto_xor w G (a ∷ xs) [] r s h = absurd (omega arith)
+onto_xor w G (a ∷ xs) (b ∷ bs) r s h =
+    ap (λ (x : ℕ). remainder_onto w G x (xors xs bs)) (step_xor w G r s a b)
+    ∙ onto_xor w G xs bs (step w G r a) (step w G s b) (omega arith)
 
 -- ---- leading zeros
 pub step_zero : (w G : ℕ) → step w G 0 false ≡ 0
 unfolding step reduce
 step_zero w G = simp (zero-div, zero-mod, zero-mul)
 
-pub leading : (w G n : ℕ) (bs : List Bool) → run w G 0 (replicate n false ++ bs) ≡ run w G 0 bs
+pub leading : (w G n : ℕ) (bs : List Bool) → remainder_onto w G 0 (replicate n false ++ bs) ≡ remainder_onto w G 0 bs
 leading w G zero bs = refl
-leading w G (suc n) bs = ap (λ (x : ℕ). run w G x (replicate n false ++ bs)) (step_zero w G) ∙ leading w G n bs
+leading w G (suc n) bs = ap (λ (x : ℕ). remainder_onto w G x (replicate n false ++ bs)) (step_zero w G) ∙ leading w G n bs
 
-pub run-++ : (w G : ℕ) (xs ys : List Bool) (r : ℕ) → run w G r (xs ++ ys) ≡ run w G (run w G r xs) ys
-run-++ w G [] ys r = refl
-run-++ w G (x ∷ xs) ys r = run-++ w G xs ys (step w G r x)
+pub onto-append : (w G : ℕ) (xs ys : List Bool) (r : ℕ) → remainder_onto w G r (xs ++ ys) ≡ remainder_onto w G (remainder_onto w G r xs) ys
+onto-append w G [] ys r = refl
+onto-append w G (x ∷ xs) ys r = onto-append w G xs ys (step w G r x)
 
 -- ---- the degree stays below w
 small : (q w G : ℕ) → q < 2 → G / 2 ^ w ≡ 1 → bit_xor q ((q % 2) * G / 2 ^ w) ≡ 0
@@ -111,9 +112,9 @@ step_lt w G r b g h =
     half true = omega (arith, pow_more w, pow_pos w)
     half false = pow_pos (1 + w)
 
-pub run_lt : (w G : ℕ) (bs : List Bool) (r : ℕ) → G / 2 ^ w ≡ 1 → r < 2 ^ w → run w G r bs < 2 ^ w
-run_lt w G [] r g h = h
-run_lt w G (b ∷ bs) r g h = run_lt w G bs (step w G r b) g (step_lt w G r b g h)
+pub onto_lt : (w G : ℕ) (bs : List Bool) (r : ℕ) → G / 2 ^ w ≡ 1 → r < 2 ^ w → remainder_onto w G r bs < 2 ^ w
+onto_lt w G [] r g h = h
+onto_lt w G (b ∷ bs) r g h = onto_lt w G bs (step w G r b) g (step_lt w G r b g h)
 
 -- ---- parity
 ones_zero : ones 0 ≡ 0
@@ -164,10 +165,10 @@ step_parity w G r b h =
     let q : ones u % 2 ≡ (ones (r * 2) + ones (scale b (2 ^ w))) % 2 = ones_xor (r * 2) (scale b (2 ^ w)) in
     omega (arith, p, q, ones_dbl r, ones_scale b w, even_mul (u / 2 ^ w) G h)
 
-pub run_parity : (w G : ℕ) (bs : List Bool) (r : ℕ) → ones G % 2 ≡ 0 → ones (run w G r bs) % 2 ≡ (ones r + weight bs) % 2
-run_parity w G [] r h = simp add-zero
-run_parity w G (true ∷ bs) r h = omega (arith, run_parity w G bs (step w G r true) h, step_parity w G r true h)
-run_parity w G (false ∷ bs) r h = omega (arith, run_parity w G bs (step w G r false) h, step_parity w G r false h)
+pub onto_parity : (w G : ℕ) (bs : List Bool) (r : ℕ) → ones G % 2 ≡ 0 → ones (remainder_onto w G r bs) % 2 ≡ (ones r + weight bs) % 2
+onto_parity w G [] r h = simp add-zero
+onto_parity w G (true ∷ bs) r h = omega (arith, onto_parity w G bs (step w G r true) h, step_parity w G r true h)
+onto_parity w G (false ∷ bs) r h = omega (arith, onto_parity w G bs (step w G r false) h, step_parity w G r false h)
 
 -- ---- G is odd, so x has an inverse: the register goes back
 pow_even : (w : ℕ) → 0 < w → 2 ^ w % 2 ≡ 0
@@ -203,19 +204,19 @@ shift_zero w G r hw hG h =
     omega (arith, e, h, xor_zero_r (r * 2))
 
 -- bits that bring the register to 0, at most w of them, are the register's own upper bits
-pub back : (w G : ℕ) (bs : List Bool) (j r : ℕ) → G % 2 ≡ 1 → j + length bs ≡ w → run w G r bs ≡ 0 → r ≡ value bs * 2 ^ j
+pub back : (w G : ℕ) (bs : List Bool) (j r : ℕ) → G % 2 ≡ 1 → j + length bs ≡ w → remainder_onto w G r bs ≡ 0 → r ≡ times bs 1 * 2 ^ j
 back w G [] j r hG h e = e ∙ sym (zero-mul (2 ^ j))
 back w G (b ∷ bs) j r hG h e =
     let len : suc j + length bs ≡ w = omega arith in
-    let ih : step w G r b ≡ value bs * 2 ^ suc j = back w G bs (suc j) (step w G r b) hG len e in
-    let ev : step w G r b % 2 ≡ 0 = ap (λ (x : ℕ). x % 2) ih ∙ shifted_even (value bs) j in
-    let un : bit_xor (r * 2) (scale b (2 ^ w)) ≡ value bs * 2 ^ suc j = unreduced w G r b (omega arith) hG ev ∙ ih in
-    let dbl : r * 2 ≡ bit_xor (value bs * 2 ^ suc j) (scale b (2 ^ w)) = xor_over (r * 2) (scale b (2 ^ w)) (value bs * 2 ^ suc j) un in
-    eq_of_mul-eq-mul_right 2 (lit< tt) r (value (b ∷ bs) * 2 ^ j)
-    (dbl ∙ ap (bit_xor (value bs * 2 ^ suc j)) (top b len)
-    ∙ xor_comm (value bs * 2 ^ suc j) (scale b (1 * 2 ^ length bs) * 2 ^ suc j)
-    ∙ sym (xor_shl (scale b (1 * 2 ^ length bs)) (value bs) (suc j))
-    ∙ ap (λ (x : ℕ). value (b ∷ bs) * x) (pow-suc 2 j) ∙ sym (mul_assoc (value (b ∷ bs)) (2 ^ j) 2))
+    let ih : step w G r b ≡ times bs 1 * 2 ^ suc j = back w G bs (suc j) (step w G r b) hG len e in
+    let ev : step w G r b % 2 ≡ 0 = ap (λ (x : ℕ). x % 2) ih ∙ shifted_even (times bs 1) j in
+    let un : bit_xor (r * 2) (scale b (2 ^ w)) ≡ times bs 1 * 2 ^ suc j = unreduced w G r b (omega arith) hG ev ∙ ih in
+    let dbl : r * 2 ≡ bit_xor (times bs 1 * 2 ^ suc j) (scale b (2 ^ w)) = xor_over (r * 2) (scale b (2 ^ w)) (times bs 1 * 2 ^ suc j) un in
+    eq_of_mul-eq-mul_right 2 (lit< tt) r (times (b ∷ bs) 1 * 2 ^ j)
+    (dbl ∙ ap (bit_xor (times bs 1 * 2 ^ suc j)) (top b len)
+    ∙ xor_comm (times bs 1 * 2 ^ suc j) (scale b (1 * 2 ^ length bs) * 2 ^ suc j)
+    ∙ sym (xor_shl (scale b (1 * 2 ^ length bs)) (times bs 1) (suc j))
+    ∙ ap (λ (x : ℕ). times (b ∷ bs) 1 * x) (pow-suc 2 j) ∙ sym (mul_assoc (times (b ∷ bs) 1) (2 ^ j) 2))
   where
     top : (b : Bool) → suc j + length bs ≡ w → scale b (2 ^ w) ≡ scale b (1 * 2 ^ length bs) * 2 ^ suc j
     top true l = ap (λ (x : ℕ). 2 ^ x) (sym l) ∙ pow-add 2 (suc j) (length bs) ∙ mul_comm (2 ^ suc j) (2 ^ length bs) ∙ ap (λ (x : ℕ). x * 2 ^ suc j) (sym (one-mul (2 ^ length bs)))
@@ -233,11 +234,11 @@ pub reduce_small : (w G u : ℕ) → u < 2 ^ w → reduce w G u ≡ u
 unfolding reduce
 reduce_small w G u h = simp (div-eq_of_lt h, zero-mul, xor_zero_r)
 
-out : (w G k j r : ℕ) → j + k ≡ w → run w G ((r % 2 ^ k) * 2 ^ j) (high_first k r) ≡ 0
+out : (w G k j r : ℕ) → j + k ≡ w → remainder_onto w G ((r % 2 ^ k) * 2 ^ j) (high_first k r) ≡ 0
 unfolding step high_first
 out w G zero j r h = ap (λ (x : ℕ). x * 2 ^ j) (omega arith) ∙ zero-mul (2 ^ j)
 out w G (suc k) j r h =
-    ap (λ (x : ℕ). run w G x (high_first k r)) (ap (reduce w G) shifted ∙ reduce_small w G (m * 2 ^ suc j) small')
+    ap (λ (x : ℕ). remainder_onto w G x (high_first k r)) (ap (reduce w G) shifted ∙ reduce_small w G (m * 2 ^ suc j) small')
     ∙ out w G k (suc j) r (omega arith)
   where
     d : ℕ
@@ -270,8 +271,8 @@ out w G (suc k) j r h =
 pub appended : (w G : ℕ) (bs : List Bool) → G / 2 ^ w ≡ 1 → remainder w G (bs ++ high_first w (remainder w G bs)) ≡ 0
 appended w G bs g =
     let r : ℕ = remainder w G bs in
-    run-++ w G bs (high_first w r) 0
-    ∙ ap (λ (x : ℕ). run w G x (high_first w r)) (sym (ap (λ (x : ℕ). x * 2 ^ 0) (mod-eq_of_lt (run_lt w G bs 0 g (pow_pos w))) ∙ mul-one r))
+    onto-append w G bs (high_first w r) 0
+    ∙ ap (λ (x : ℕ). remainder_onto w G x (high_first w r)) (sym (ap (λ (x : ℕ). x * 2 ^ 0) (mod-eq_of_lt (onto_lt w G bs 0 g (pow_pos w))) ∙ mul-one r))
     ∙ out w G w 0 r (zero-add w)
 
 -- ---- polynomial division
@@ -280,7 +281,7 @@ scale_shl true m n = refl
 scale_shl false m n = sym (zero-mul n)
 
 pub divided : (w G : ℕ) (bs : List Bool) (r : ℕ)
-    → (q : List Bool) × (length q ≡ length bs) × (bit_xor (r * 2 ^ length bs) (times bs (2 ^ w)) ≡ bit_xor (times q G) (run w G r bs))
+    → (q : List Bool) × (length q ≡ length bs) × (bit_xor (r * 2 ^ length bs) (times bs (2 ^ w)) ≡ bit_xor (times q G) (remainder_onto w G r bs))
 unfolding step reduce
 divided w G [] r = ([], refl, xor_zero_r (r * 1) ∙ mul-one r)
 divided w G (b ∷ bs) r = go (divided w G bs (step w G r b))
@@ -294,8 +295,8 @@ divided w G (b ∷ bs) r = go (divided w G bs (step w G r b))
     S : ℕ
     S = step w G r b
 
-    go : (q : List Bool) × (length q ≡ n) × (bit_xor (S * 2 ^ n) (times bs (2 ^ w)) ≡ bit_xor (times q G) (run w G S bs))
-        → (q : List Bool) × (length q ≡ suc n) × (bit_xor (r * 2 ^ suc n) (times (b ∷ bs) (2 ^ w)) ≡ bit_xor (times q G) (run w G S bs))
+    go : (q : List Bool) × (length q ≡ n) × (bit_xor (S * 2 ^ n) (times bs (2 ^ w)) ≡ bit_xor (times q G) (remainder_onto w G S bs))
+        → (q : List Bool) × (length q ≡ suc n) × (bit_xor (r * 2 ^ suc n) (times (b ∷ bs) (2 ^ w)) ≡ bit_xor (times q G) (remainder_onto w G S bs))
     go h =
         let q : List Bool = h.0 in
         let D : ℕ = (u / 2 ^ w % 2) * G in
@@ -311,48 +312,25 @@ divided w G (b ∷ bs) r = go (divided w G bs (step w G r b))
               ∙ xor_shl S D n ∙ xor_comm (S * 2 ^ n) (D * 2 ^ n))
               ∙ xor_assoc (D * 2 ^ n) (S * 2 ^ n) (times bs (2 ^ w))
               ∙ ap₂ bit_xor top h.2
-              ∙ sym (xor_assoc (scale (odd (u / 2 ^ w)) (G * 2 ^ length q)) (times q G) (run w G S bs)),
+              ∙ sym (xor_assoc (scale (odd (u / 2 ^ w)) (G * 2 ^ length q)) (times q G) (remainder_onto w G S bs)),
         )
 
 pub divides : (w G : ℕ) (bs : List Bool) → G / 2 ^ w ≡ 1 → Divided w G bs (remainder w G bs)
 divides w G bs g =
     let h = divided w G bs 0 in
-    (h.0, h.1, run_lt w G bs 0 g (pow_pos w), ap (λ (x : ℕ). bit_xor x (times bs (2 ^ w))) (sym (zero-mul (2 ^ length bs))) ∙ h.2)
+    (h.0, h.1, onto_lt w G bs 0 g (pow_pos w), ap (λ (x : ℕ). bit_xor x (times bs (2 ^ w))) (sym (zero-mul (2 ^ length bs))) ∙ h.2)
 
--- ---- bits and the number that they write
-pub value_lt : (bs : List Bool) → value bs < 2 ^ length bs
-value_lt [] = pow_pos 0
-value_lt (true ∷ bs) =
-    let ih : value bs < 2 ^ length bs = value_lt bs in
-    let e : bit_xor (1 * 2 ^ length bs) (value bs) ≡ 1 * 2 ^ length bs + value bs = xor_shifted 1 (length bs) (value bs) ih in
-    omega (arith, pow-suc 2 (length bs), e)
-value_lt (false ∷ bs) = omega (arith, pow-suc 2 (length bs), value_lt bs)
-
--- the highest digit, and the others
-scale_digit : (b : Bool) → odd (scale b 1) ≡ b
-scale_digit true = refl
-scale_digit false = refl
-
-scale_one : (b : Bool) (n : ℕ) → scale b (1 * n) ≡ scale b 1 * n
-scale_one true n = refl
-scale_one false n = sym (zero-mul n)
-
-pub high_value : (bs : List Bool) → high_first (length bs) (value bs) ≡ bs
-unfolding high_first
-high_value [] = refl
-high_value (b ∷ bs) =
-    let n : ℕ = length bs in
-    let whole : value (b ∷ bs) ≡ scale b 1 * 2 ^ n + value bs
-    = ap (λ (x : ℕ). bit_xor x (value bs)) (scale_one b (2 ^ n)) ∙ xor_shifted (scale b 1) n (value bs) (value_lt bs) in
-    ap₂ (λ (x : Bool) (xs : List Bool). x ∷ xs)
-    (ap odd (ap (λ (x : ℕ). x / 2 ^ n) whole ∙ shr_high (scale b 1) n (value bs) (value_lt bs)) ∙ scale_digit b)
-    (high_mod n (value (b ∷ bs)) (value bs)
-    (ap (λ (x : ℕ). x % 2 ^ n) whole ∙ mod_low (scale b 1) n (value bs) (value_lt bs) ∙ sym (mod-eq_of_lt (value_lt bs)))
-    ∙ high_value bs)
+-- the product with 1 is the number that the bits write
+pub times_one : (bs : List Bool) → times bs 1 ≡ high_value bs
+times_one [] = refl
+times_one (true ∷ bs) =
+    ap (bit_xor (1 * 2 ^ length bs)) (times_one bs)
+    ∙ xor_shifted 1 (length bs) (high_value bs) (value_lt bs) ∙ ap (λ (x : ℕ). x + high_value bs) (one-mul (2 ^ length bs))
+times_one (false ∷ bs) = times_one bs
 
 -- and no other w bits do
 pub only_appended : (w G : ℕ) (bs cs : List Bool) → G % 2 ≡ 1 → length cs ≡ w → remainder w G (bs ++ cs) ≡ 0 → cs ≡ high_first w (remainder w G bs)
 only_appended w G bs cs g l e =
-    sym (high_value cs)
+    sym (high_value_is cs)
     ∙ ap₂ high_first l
-    (sym (back w G cs 0 (remainder w G bs) g (omega arith) (sym (run-++ w G bs cs 0) ∙ e) ∙ mul-one (value cs)))
+    (sym (back w G cs 0 (remainder w G bs) g (omega arith) (sym (onto-append w G bs cs 0) ∙ e) ∙ mul-one (times cs 1) ∙ times_one cs))

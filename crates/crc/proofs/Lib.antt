@@ -3,4 +3,3 @@ pub mod Division
 pub mod Detect
 pub mod Generators
 pub mod Stepping
-pub mod Values

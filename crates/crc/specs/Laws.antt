@@ -8,10 +8,6 @@ abbrev pub times : List Bool → ℕ → ℕ
 times [] G = 0
 times (b ∷ bs) G = bit_xor (scale b (G * 2 ^ length bs)) (times bs G)
 
--- the number that bits write, the highest digit first
-abbrev pub value : List Bool → ℕ
-value bs = times bs 1
-
 -- division by G: the field times x ^ w is q G + r for some q, and the degree of r is below w
 abbrev pub Divided : ℕ → ℕ → List Bool → ℕ → Type 0
 Divided w G bs r = (q : List Bool) × (length q ≡ length bs) × (r < 2 ^ w) × (times bs (2 ^ w) ≡ bit_xor (times q G) r)
@@ -34,7 +30,7 @@ weight (true ∷ bs) = suc (weight bs)
 weight (false ∷ bs) = weight bs
 
 -- The laws of every generator of degree w.
-pub record Laws (w G : ℕ) : Type 0 where
+pub record DivisionLaws (w G : ℕ) : Type 0 where
   -- the remainder is that of the division by G, and there is no other
   pub divides : (bs : List Bool) → Divided w G bs (remainder w G bs)
   pub unique : (bs : List Bool) (r s : ℕ) → Divided w G bs r → Divided w G bs s → r ≡ s

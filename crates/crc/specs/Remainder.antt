@@ -17,10 +17,10 @@ unfoldable pub step : ℕ → ℕ → ℕ → Bool → ℕ
 step w G r b = reduce w G (bit_xor (r * 2) (scale b (2 ^ w)))
 
 -- bits behind a field whose remainder is r, the first sent bit first
-abbrev pub run : ℕ → ℕ → ℕ → List Bool → ℕ
-run w G r [] = r
-run w G r (b ∷ bs) = run w G (step w G r b) bs
+abbrev pub remainder_onto : ℕ → ℕ → ℕ → List Bool → ℕ
+remainder_onto w G r [] = r
+remainder_onto w G r (b ∷ bs) = remainder_onto w G (step w G r b) bs
 
 -- the remainder of a field: the start value is 0
 abbrev pub remainder : ℕ → ℕ → List Bool → ℕ
-remainder w G bs = run w G 0 bs
+remainder w G bs = remainder_onto w G 0 bs

@@ -1,11 +1,12 @@
 //! Cyclic remainders (CRC) over a field of bits, once for every degree and generator; those of degree 7 and 12 are made here.
 //! Main promise: `remainder` is the remainder that the division of the field by the generator over GF(2) leaves (`laws_hold`),
-//! and between words that leave 0 no change of one, two or three bits goes unseen (`degree_seven`, `degree_twelve`).
+//! and two words of at most 63 bits (degree 7) or 2,047 bits (degree 12) that leave 0 do not differ in just one, two or three bits
+//! (`degree_seven`, `degree_twelve`).
 #![tactic(auto)]
 
 ghost use Rattle.std.specs.Prelude.{◌≡◌, ℕ, ◌/◌, ◌^◌, ◌<◌};
 ghost use Rattle.bits.specs.Bits.{field};
-ghost use Rattle.crc.specs.Laws.{Detecting, Detects, Known, Laws};
+ghost use Rattle.crc.specs.Laws.{Detecting, Detects, DivisionLaws, Known};
 ghost use Rattle.crc.specs.Remainder.{remainder as rest, step};
 
 /// A generator by its terms: the digit of weight 2^k is the coefficient of x^k, and the highest is that of x^degree.
@@ -80,11 +81,12 @@ impl Generator {
 /// The remainder is that of the division, and its laws, for every generator.
 #[tactic(auto, using(crate::proofs::Division::laws, crate::proofs::Generators::known))]
 pub fn laws_hold()
-    ensures laws { (w G : ℕ) → G / 2 ^ w ≡ 1 → Laws w G }
+    ensures laws { (w G : ℕ) → G / 2 ^ w ≡ 1 → DivisionLaws w G }
     ensures known { Known }
 {}
 
-/// Which changes no word hides, for every generator with an even number of terms and constant term 1.
+/// Which changes no word hides, for every generator with an even number of terms and constant term 1: up to three bits in words that are
+/// not longer than the order of x, and any within as many neighbouring bits as the degree.
 pub fn detection_holds()
     ensures { (w G n : ℕ) → Detecting w G n → Detects w G n }
 {}

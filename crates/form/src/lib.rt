@@ -103,7 +103,8 @@ pub enum Mark {
 
 impl Mark {
     /// Which mark a byte is; none for a byte that a sheet may not hold.
-    // by literal cases and ranges, a form fixed by the owner; not `TryFrom`, since it is a line with such a byte that is refused
+    // by literals and ranges, so that the match reads as the table of the marks; not `TryFrom`, since it is a line with such a byte that is
+    // refused
     pub fn of(byte: u8) -> Option<Mark>
         ensures { result ≡ mark_of byte }
     {

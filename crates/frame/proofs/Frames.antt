@@ -3,13 +3,16 @@ use Rattle.std.proofs.Common.{◌≡◌, ℕ, suc, ◌+◌, ◌-◌, ◌*◌, �
 use Rattle.std.specs.List.{flat_map}
 use Rattle.std.proofs.lemmas.List.FromFn.{get_or-map-range_with_len, length-map-range_with_len}
 use Rattle.std.proofs.lemmas.List.{append-nil, drop_all, drop-drop, drop_more, ext_get_or, get_or-drop, get_or-take, length-take-le, take-append-drop}
+use Rattle.std.specs.Prelude.{Some, slice_get}
+use Rattle.std.specs.Option.{option_map}
+use Rattle.std.proofs.lemmas.Option.{slice_get-get_or}
 use Rattle.std.proofs.lemmas.Bool.{cases_eq}
 use Rattle.block.specs.declared.Block.{Block}
 use Rattle.block.specs.Classes.{class_of}
 use Rattle.block.specs.Fixed.{start_block}
-use Rattle.payload.specs.Bits.{splice}
-use Rattle.payload.proofs.Reading.{take_add}
-use Rattle.payload.proofs.Writing.{splice_next}
+use Rattle.bits.specs.Splices.{splice}
+use Rattle.std.proofs.Math.Seq.{take-add}
+use Rattle.bits.proofs.Splices.{splice_next}
 use Rattle.frame.specs.Frames.{FrameRestored, Shaped, carried_by, frame_block, frame_of, stored, stored_from}
 use Rattle.frame.proofs.Carried.{frame_data}
 use Rattle.frame.proofs.Storing.{stored_data}
@@ -26,11 +29,18 @@ frame_length F = length-map-range_with_len (frame_block F) 1 992
 pub frame_is : (F : List ℕ) (bs : List Block) (d : Block) → length bs ≡ 992 → ((i : ℕ) → i < 992 → get_or bs i d ≡ frame_block F (i + 1)) → bs ≡ frame_of F
 frame_is F bs d h f = ext_get_or d bs (frame_of F) (h ∙ sym (frame_length F)) (λ i k. let m : i < 992 = omega arith in f i m ∙ sym (frame_at F i d m))
 
+pub frame_get : (F : List ℕ) (i : ℕ) → i < 992 → slice_get (frame_of F) i ≡ Some (frame_block F (i + 1))
+frame_get F i h =
+    slice_get-get_or (frame_of F) i start_block (omega (arith, frame_length F)) ∙ ap (λ (b : Block). Some b) (frame_at F i start_block h)
+
 pub frame_shaped : (F : List ℕ) → Shaped (frame_of F)
 frame_shaped F = record {
-  opens = frame_at F 0 start_block (omega arith);
-  data_blocks = λ n a b. ap class_of (frame_at F n start_block (omega arith) ∙ frame_data F (n + 1) (λ e. omega arith) (λ e. omega arith));
-  ends = ap class_of (frame_at F 991 start_block (omega arith));
+  many = frame_length F;
+  opens = frame_get F 0 (omega arith);
+  data_blocks = λ n a b.
+      ap (option_map class_of) (frame_get F n (omega arith))
+      ∙ ap (λ (x : Block). Some (class_of x)) (frame_data F (n + 1) (λ e. omega arith) (λ e. omega arith));
+  ends = ap (option_map class_of) (frame_get F 991 (omega arith));
 }
 
 -- blocks of eight bytes each that are cut from a list
@@ -43,7 +53,7 @@ joined_eight (b ∷ bs) F f =
     ∙ ap (λ (l : List ℕ). take 8 F ++ l) (joined_eight bs (drop 8 F) (λ j h.
     let g : 8 * suc j ≡ 8 + 8 * j = omega arith in
     f (suc j) (omega arith) ∙ ap (λ (n : ℕ). take 8 (drop n F)) g ∙ ap (λ (l : List ℕ). take 8 l) (sym (drop-drop (8 * j) 8 F))))
-    ∙ sym (ap (λ (n : ℕ). take n F) e ∙ take_add 8 (8 * length bs) F)
+    ∙ sym (ap (λ (n : ℕ). take n F) e ∙ take-add 8 (8 * length bs) F)
 
 -- what a frame carries is what it was made of
 pub frame_carries : (F : List ℕ) → carried_by (frame_of F) ≡ F

@@ -1,12 +1,14 @@
 -- A frame carries seven overhead bytes and 7,920 payload bytes, one after the other, in its data blocks and its end block.
-use Rattle.std.specs.Prelude.{◌≡◌, ℕ, ◌+◌, ◌-◌, ◌*◌, ◌≤◌, if◌then◌else◌, List, [], ◌∷◌, ◌++◌, map, length, take, drop, ◌==◌, slice_index_or}
+use Rattle.std.specs.Prelude.{◌≡◌, ℕ, ◌+◌, ◌-◌, ◌*◌, ◌≤◌, if◌then◌else◌, List, [], ◌∷◌, ◌++◌, map, length, take, drop, ◌==◌, Some, slice_get, slice_index_or}
 use Rattle.std.specs.List.{range_with_len, flat_map}
+use Rattle.std.specs.Option.{option_map}
 use Rattle.block.specs.declared.Block.{Block}
 use Rattle.block.specs.declared.Sync.TheVariants.{Control, Data}
 use Rattle.block.specs.declared.Class.TheVariants.{Data as DataClass, End}
 use Rattle.block.specs.Classes.{class_of}
 use Rattle.block.specs.Fixed.{start_block}
-use Rattle.payload.specs.Bits.{splice}
+use Rattle.bits.specs.Splices.{splice}
+use Rattle.frame.specs.Places.{frame_blocks, is_data_place}
 
 -- the block at a place of the frame that carries these bytes: data blocks take eight each, the end block the last seven
 abbrev pub frame_block : List ℕ → ℕ → Block
@@ -39,8 +41,13 @@ stored_from n (b ∷ bs) carried = stored_from (n + 1) bs (stored n b.bytes carr
 abbrev pub FrameRestored : Type 0
 FrameRestored = (carried before : List ℕ) → length carried ≡ 7927 → length before ≡ 7927 → stored_from 1 (frame_of carried) before ≡ carried
 
+-- the carried bytes, with those of a data block stored, where the place is a data block's
+abbrev pub with_data : ℕ → List ℕ → List ℕ → List ℕ
+with_data n bytes carried = if is_data_place n then splice (8 * (n - 2)) bytes carried else carried
+
 -- the shape of a frame: the start block, 990 data blocks, an end that carries seven bytes
 pub record Shaped (blocks : List Block) : Type 0 where
-  pub opens : slice_index_or blocks 0 start_block ≡ start_block
-  pub data_blocks : (n : ℕ) → 1 ≤ n → n ≤ 990 → class_of (slice_index_or blocks n start_block) ≡ DataClass
-  pub ends : class_of (slice_index_or blocks 991 start_block) ≡ End 7
+  pub many : length blocks ≡ frame_blocks
+  pub opens : slice_get blocks 0 ≡ Some start_block
+  pub data_blocks : (n : ℕ) → 1 ≤ n → n ≤ 990 → option_map class_of (slice_get blocks n) ≡ Some DataClass
+  pub ends : option_map class_of (slice_get blocks 991) ≡ Some (End 7)

@@ -1,3 +1,4 @@
 pub mod Places
 pub mod Frames
 pub mod SlotStarts
+pub mod Steps

@@ -1,5 +1,5 @@
 -- The places of a frame's blocks: 1 the start block, 2 to 991 data blocks 1 to 990, 992 the end block.
-use Rattle.std.specs.Prelude.{ℕ, ◌+◌, ◌≤◌, false, if◌then◌else◌, Some, None, Ok, Err, Option, Result, ◌==◌, nat_le}
+use Rattle.std.specs.Prelude.{ℕ, ◌+◌, ◌≤◌, Bool, false, if◌then◌else◌, Some, None, Ok, Err, Option, Result, ◌==◌, nat_le, nat_lt}
 use Rattle.refusal.specs.declared.Refusal.{Refusal}
 use Rattle.refusal.specs.declared.Refusal.TheVariants.{OutOfRange}
 
@@ -18,3 +18,11 @@ checked_place n = if (if nat_le 1 n then nat_le n frame_blocks else false) then 
 -- the place after this one, none after the last
 abbrev pub next_place : ℕ → Option ℕ
 next_place n = if n == frame_blocks then None else Some (n + 1)
+
+-- the place behind n blocks, none behind all of them
+abbrev pub place_behind : ℕ → Option ℕ
+place_behind n = if nat_lt n frame_blocks then Some (n + 1) else None
+
+-- the places of the 990 data blocks
+abbrev pub is_data_place : ℕ → Bool
+is_data_place n = if nat_le 2 n then nat_lt n frame_blocks else false

@@ -8,7 +8,7 @@ use Rattle.frame.specs.Frames.{frame_block}
 abbrev pub slot_start : ℕ → SlotStart
 slot_start k = record { block = (7 + slot_bit k / 8) / 8 + 1; byte = (7 + slot_bit k / 8) % 8; bit = slot_bit k % 8 }
 
--- slot 2 begins in data block 3, byte 7, bit 4, and slot 480 in data block 989, byte 6, bit 4
+-- computed for the second slot, the first that begins within a byte, and for the last
 abbrev pub SlotStarts : Type 0
 SlotStarts =
     (slot_start 2 ≡ record { block = 3; byte = 7; bit = 4 }) × (slot_start 480 ≡ record { block = 989; byte = 6; bit = 4 })

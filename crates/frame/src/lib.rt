@@ -3,10 +3,13 @@
 //! Main promise: each block is the one that the definition `frame_block` gives, and what is put together is taken apart unchanged.
 #![tactic(auto)]
 
-ghost use Rattle.std.specs.Prelude.{◌≡◌, ◌+◌, ◌*◌, ◌≤◌, ◌∷◌, ◌++◌, length, take, drop};
-ghost use Rattle.frame.specs.Frames.{FrameRestored, Shaped, carried_by, frame_block, frame_of, stored};
+ghost use Rattle.std.specs.Prelude.{◌≡◌, ◌+◌, ◌-◌, ◌*◌, ◌≤◌, ◌∷◌, ◌++◌, length, take, drop};
+ghost use Rattle.frame.specs.Frames.{FrameRestored, Shaped, carried_by, frame_block, frame_of, stored, with_data};
+ghost use Rattle.frame.specs.Places.{IsPlace, is_data_place};
+ghost use Rattle.frame.specs.Steps.{ByBlocks};
 ghost use Rattle.frame.specs.SlotStarts.{SlotStarts, SlotsBeginThere, slot_start};
-ghost use Rattle.payload.specs.Bits.{splice};
+ghost use Rattle.numbers.specs.Range.{IsOneTo480};
+ghost use Rattle.bits.specs.Splices.{splice};
 
 /// Places of blocks in a frame.
 pub mod place;
@@ -23,15 +26,19 @@ pub type OverheadBytes = [u8; 7];
 
 /// The block at a place of the frame with this overhead and payload.
 pub fn block_at(overhead: &OverheadBytes, payload: &Payload, place: FramePlace) -> Block
-    ensures { result ≡ frame_block (overhead.now ++ payload.now) place }
+    ensures made { result ≡ frame_block (overhead.now ++ payload.now) place }
+    ensures range { IsPlace place }
 {
     // By the number, here and in `store_block`: an enum of the four kinds would need a definition and a law that say which number is
     // which, and its matches would have the same four arms.
-    match place.number() {
+    let n = place.position();
+    if 2 < n && n < 992 {
+        return data(payload, 8 * n - 23);
+    }
+    match n {
         1 => Block::start(),
         2 => first_data(overhead, payload),
-        992 => end(payload),
-        n => data(payload, 8 * n as usize - 23),
+        _ => end(payload),
     }
 }
 
@@ -50,6 +57,7 @@ pub struct SlotStart {
 #[tactic(auto, using(crate::proofs::Starts::slots_begin_there))]
 pub fn slot_start(slot: SlotNumber) -> SlotStart
     ensures made { result ≡ slot_start slot }
+    ensures range { IsOneTo480 slot }
     ensures values { SlotStarts }
     ensures there { SlotsBeginThere }
 {
@@ -110,15 +118,51 @@ pub fn store_block(
 )
     ensures kept { overhead.new ++ payload.new ≡ stored place block.now.bytes (overhead.old ++ payload.old) }
     ensures eight { length block.now.bytes ≡ 8 }
+    ensures long { (length overhead.new ≡ 7) × (length payload.new ≡ 7920) }
+    ensures range { IsPlace place }
     ensures restored { FrameRestored }
 {
-    match place.number() {
-        1 => {}
-        2 => store_first(&block.bytes, overhead, payload),
-        992 => store(&block.bytes[1..8], payload, 7913),
-        n => store(&block.bytes, payload, 8 * n as usize - 23),
+    let n = place.position();
+    if store_data(block, n, overhead, payload) {
+        return;
+    }
+    if n == 992 {
+        let bytes = block.bytes;
+        store(&bytes[1..8], payload, 7913);
     }
 }
+
+/// Stores the eight bytes of a data block, and leaves all other bytes; answers whether the place, 2 to 991, is a data block's, and where it is
+/// not leaves all.
+#[tactic(auto, using(crate::proofs::Storing::past_stored))]
+pub fn store_data(
+    block: &Block,
+    place: usize,
+    overhead: &mut OverheadBytes,
+    payload: &mut Payload,
+) -> bool
+    ensures answer { result ≡ is_data_place place }
+    ensures kept { overhead.new ++ payload.new ≡ with_data place block.now.bytes (overhead.old ++ payload.old) }
+    ensures eight { length block.now.bytes ≡ 8 }
+    ensures long { (length overhead.new ≡ 7) × (length payload.new ≡ 7920) }
+{
+    // A copy, which is known to lie apart from the payload: with the caller's bytes each store first asks whether the two overlap.
+    let bytes = block.bytes;
+    if 2 < place && place < 992 {
+        store(&bytes, payload, 8 * place - 23);
+        return true;
+    }
+    if place == 2 {
+        store_first(&bytes, overhead, payload);
+    }
+    place == 2
+}
+
+/// A frame is sent and stored block by block: the next block, the frame so far and a block more, and the parts of every frame.
+#[tactic(auto, using(crate::proofs::Steps::by_blocks))]
+pub fn by_blocks()
+    ensures { ByBlocks }
+{}
 
 /// Writes the 992 blocks of the frame with this overhead and payload.
 pub fn assemble(overhead: &OverheadBytes, payload: &Payload, blocks: &mut [Block; 992])
@@ -141,12 +185,13 @@ pub fn take_apart(blocks: &[Block; 992], overhead: &mut OverheadBytes, payload: 
 }
 
 // Stores the bytes of data block 1.
-#[tactic(auto, using(crate::proofs::Storing::first_stored))]
+#[tactic(auto, using(crate::proofs::Storing::first_written))]
 fn store_first(bytes: &[u8; 8], overhead: &mut OverheadBytes, payload: &mut Payload)
     ensures { overhead.new ++ payload.new ≡ splice 0 bytes.now (overhead.old ++ payload.old) }
 {
-    overhead.copy_from_slice(&bytes[0..7]);
-    payload[0] = bytes[7];
+    let [a, b, c, d, e, f, g, last] = *bytes;
+    *overhead = [a, b, c, d, e, f, g];
+    payload[0] = last;
 }
 
 // Stores bytes in the payload, from byte `at` on.

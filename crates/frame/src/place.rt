@@ -1,6 +1,6 @@
 //! The place of a block in its frame, from 1, the start block, to 992, the end block. In contracts it is its number.
 ghost use Rattle.std.specs.Prelude.{◌≡◌, ◌+◌, ◌<◌, ◌≤◌, IfSome};
-ghost use Rattle.frame.specs.Places.{IsPlace, checked_place, next_place};
+ghost use Rattle.frame.specs.Places.{IsPlace, checked_place, frame_blocks, next_place, place_behind};
 
 use refusal::Refusal;
 use std::marker::Model;
@@ -9,7 +9,8 @@ use std::marker::Model;
 /// A block's place in its frame, 1 to 992.
 #[derive(Clone, Copy, Debug, PartialEq, Eq)]
 pub struct FramePlace {
-    number: u16,
+    // a whole word, since the places of bytes are counted from it
+    number: usize,
 }
 
 impl Model for FramePlace {
@@ -33,7 +34,9 @@ impl TryFrom<u16> for FramePlace {
     /// Refuses with `OutOfRange` what is no place.
     fn try_from(number: u16) -> Result<FramePlace, Refusal> {
         match number {
-            1..=992 => Ok(FramePlace { number }),
+            1..=992 => Ok(FramePlace {
+                number: number as usize,
+            }),
             _ => Err(Refusal::OutOfRange),
         }
     }
@@ -45,6 +48,13 @@ impl FramePlace {
         ensures { result ≡ 1 }
     {
         FramePlace { number: 1 }
+    }
+
+    /// The place of the end block.
+    pub fn last() -> FramePlace
+        ensures { result ≡ frame_blocks }
+    {
+        FramePlace { number: 992 }
     }
 
     /// The place behind this one, none behind the end block's.
@@ -63,7 +73,26 @@ impl FramePlace {
         ensures value { result ≡ self }
         ensures range { IsPlace self }
     {
+        self.number as u16
+    }
+
+    // The number, as a count of blocks.
+    pub(crate) fn position(self) -> usize
+        ensures value { result ≡ self }
+        ensures range { IsPlace self }
+    {
         self.number
+    }
+
+    /// The place behind so many blocks of a frame, none where they are all.
+    pub fn behind(count: usize) -> Option<FramePlace>
+        ensures { result ≡ place_behind count }
+    {
+        if count < 992 {
+            Some(FramePlace::of_index(count))
+        } else {
+            None
+        }
     }
 
     // The place of the block with this index among its frame's.
@@ -71,8 +100,6 @@ impl FramePlace {
         requires { index < 992 }
         ensures { result ≡ index + 1 }
     {
-        FramePlace {
-            number: index as u16 + 1,
-        }
+        FramePlace { number: index + 1 }
     }
 }

@@ -1,15 +1,15 @@
 -- How many bytes a line and a listing have.
-use Rattle.std.proofs.Common.{◌≡◌, ℕ, zero, suc, ◌+◌, ◌-◌, ◌*◌, ◌^◌, ◌<◌, ◌≤◌, eqb, List, [], ◌++◌, length, decimal, ap, inl, inr, arith}
+use Rattle.std.proofs.Common.{◌≡◌, ℕ, zero, suc, ◌+◌, ◌*◌, ◌^◌, ◌<◌, ◌≤◌, eqb, List, [], length, decimal, ap, inl, inr, arith}
 use Rattle.std.proofs.lemmas.Fmt.{length-decimal-le}
 use Rattle.std.proofs.lemmas.List.{length-append}
 use Rattle.std.proofs.lemmas.Bool.{cases_Bool, cases_eq, cond-false, cond-true}
 use Rattle.std.specs.List.{range_with_len, flat_map}
+use Rattle.numbers.specs.Walk.{numbers_between}
 use Rattle.calendar.proofs.Shares.{count_le, share_law}
 use Rattle.calendar.specs.Share.{first_slot, slot_count}
-use Rattle.listing.proofs.Growth.{joined_counting}
 use Rattle.refusal.specs.declared.Refusal.{Refusal}
 use Rattle.refusal.specs.Numbers.{number_of}
-use Rattle.listing.specs.Lines.{client_line, line_of, refused_line}
+use Rattle.listing.specs.Lines.{client_line, line_of, listing_of, refused_line}
 
 pub length_line :
     (client count first : ℕ) →
@@ -48,22 +48,21 @@ short_client es c full high =
           )
     ]
 
--- the lines of the clients 1 to n
-pub short_lines :
-    (es : List ℕ) (n : ℕ) → length es ≡ 480 → n ≤ 480 → length (flat_map (client_line es) (range_with_len 1 n)) ≤ 12 * n
-short_lines es zero full high = omega arith
-short_lines es (suc n) full high =
-    let less : suc n - 1 ≡ n = omega arith in
-    let grown = joined_counting (client_line es) (suc n) (omega arith) in
-    let before = flat_map (client_line es) (range_with_len 1 n) in
-    let split : flat_map (client_line es) (range_with_len 1 (suc n)) ≡ before ++ client_line es (suc n) = rw less at grown in
+-- the lines of n clients, from number a on
+short_lines :
+    (es : List ℕ) (a n : ℕ) → length es ≡ 480 → a + n ≤ 481 → length (flat_map (client_line es) (range_with_len a n)) ≤ 12 * n
+short_lines es a zero full high = omega arith
+short_lines es a (suc n) full high =
     omega (
       arith,
-      ap length split,
-      length-append before (client_line es (suc n)),
-      short_lines es n full (omega arith),
-      short_client es (suc n) full high,
+      length-append (client_line es a) (flat_map (client_line es) (range_with_len (a + 1) n)),
+      short_client es a full (omega arith),
+      short_lines es (a + 1) n full (omega arith),
     )
+
+pub short_listing : (es : List ℕ) → length es ≡ 480 → length (listing_of es) ≤ 5760
+unfolding numbers_between
+short_listing es full = let lines = short_lines es 1 480 full (omega arith) in omega (arith, lines)
 
 -- a cause's number has at most three digits, and a line's at most twenty
 pub short_refusal : (cause : Refusal) (line : ℕ) → number_of cause < 2 ^ 8 → line < 2 ^ 64 → length (refused_line cause line) ≤ 38

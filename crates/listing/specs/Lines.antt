@@ -1,9 +1,11 @@
 -- The bytes of a calendar's listing, and of the line that says why a sheet was refused.
 use Rattle.std.specs.Prelude.{◌≡◌, ℕ, ◌^◌, ◌<◌, if◌then◌else◌, List, [], ◌++◌, codes, decimal, ◌==◌, slice_index}
-use Rattle.std.specs.List.{range_with_len, flat_map}
+use Rattle.std.specs.List.{flat_map}
 use Rattle.std.specs.Str.Parse.{IsNumeral, digits_value}
 use Rattle.refusal.specs.declared.Refusal.{Refusal}
 use Rattle.refusal.specs.Numbers.{number_of}
+use Rattle.numbers.specs.Range.{slots}
+use Rattle.numbers.specs.Walk.{numbers_between}
 use Rattle.calendar.specs.Share.{slot_count, first_slot}
 
 -- client, slot count and first slot, with single blanks, and a newline
@@ -14,9 +16,9 @@ line_of client count first = decimal client ++ (codes " " ++ (decimal count ++ (
 abbrev pub client_line : List ℕ → ℕ → List ℕ
 client_line es c = if slot_count c es == 0 then [] else line_of c (slot_count c es) (first_slot c es)
 
--- the lines of clients 1 to 480, by rising client
+-- the lines of all clients, by rising client
 abbrev pub listing_of : List ℕ → List ℕ
-listing_of es = flat_map (client_line es) (range_with_len 1 480)
+listing_of es = flat_map (client_line es) (numbers_between 1 slots)
 
 -- the cause's number and the line's, from 1
 abbrev pub refused_line : Refusal → ℕ → List ℕ

@@ -10,12 +10,12 @@ ghost use Rattle.listing.specs.Sample.{Samples};
 ghost use Rattle.text_out.specs.Wrote.{Writes, Wrote};
 
 use calendar::Calendar;
-use numbers::ClientNumber;
+use numbers::{ClientNumber, SLOTS};
 use refusal::Refusal;
 use text_out::TextOut;
 
 /// Bytes that hold any listing: 480 lines of at most 12, as "480 480 480\n".
-pub const LISTING_LEN: usize = 480 * 12;
+pub const LISTING_LEN: usize = SLOTS * 12;
 
 /// Bytes that hold any refusal line: "refused ", a number of at most 3 digits, " line ", one of at most 20, "\n".
 pub const REFUSAL_LEN: usize = 8 + 3 + 6 + 20 + 1;
@@ -45,7 +45,7 @@ pub fn listing(calendar: &Calendar, out: &mut [u8; LISTING_LEN]) -> usize
     ensures fits { result ≤ 5760 }
 {
     let mut text = TextOut::new(out);
-    for client in (1..481u16).filter_map(|number| ClientNumber::try_from(number).ok()) {
+    for client in ClientNumber::all() {
         put_client(&mut text, calendar, client);
     }
     text.finish()
@@ -86,10 +86,8 @@ mod tests {
         let mut calendar = Calendar::empty();
         for lease in leases {
             let client = ClientNumber::try_from(lease.0)?;
-            for slot in 1..=480u16 {
-                if lease.1 <= slot && slot <= lease.2 {
-                    calendar.assign(SlotNumber::try_from(slot)?, client);
-                }
+            for slot in SlotNumber::try_from(lease.1)?.to(SlotNumber::try_from(lease.2)?) {
+                calendar.assign(slot, client);
             }
         }
         let before = [b'#'; LISTING_LEN];

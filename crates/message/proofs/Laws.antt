@@ -1,7 +1,8 @@
 -- The laws of what is written.
-use Rattle.std.proofs.Common.{◌≡◌, ℕ, zero, suc, ◌+◌, ◌-◌, ◌*◌, ◌≤◌, Bool, List, ◌++◌, length, take, drop, refl, ap, ◌∙◌, ap₂, arith}
+use Rattle.std.proofs.Common.{◌≡◌, ℕ, ◌+◌, ◌-◌, ◌*◌, ◌≤◌, Bool, List, ◌++◌, length, take, refl, ap, ◌∙◌, ap₂, arith}
 use Rattle.std.proofs.lemmas.List.{length-append, length-take-le, take_at}
-use Rattle.bits.specs.Bits.{bits, field, high_first, packed}
+use Rattle.bits.specs.Bits.{bits, field, high_first, packed_bytes}
+use Rattle.bits.proofs.Packing.{length_packed}
 use Rattle.crc.proofs.Laws.{appended}
 use Rattle.bits.proofs.Places.{length_bits}
 use Rattle.message.specs.Values.{covered, crc12, filled}
@@ -9,16 +10,11 @@ use Rattle.message.specs.Written.{Laws}
 use Rattle.message.proofs.Tails.{filled_bits}
 use Rattle.message.proofs.ReadBacks.{read_back, blocks_read_back, eleven}
 
-length_packed : (n : ℕ) (bs : List Bool) → length (packed n bs) ≡ n
-unfolding packed
-length_packed zero bs = refl
-length_packed (suc n) bs = ap suc (length_packed n (drop 8 bs))
-
 pub filled_length : (vs : List ℕ) → 2 ≤ length vs → length (filled vs) ≡ length vs
 unfolding filled
 filled_length vs h =
     let n : ℕ = length vs in
-    let tail : List ℕ = packed 2 (field vs (8 * n - 16) (8 * n - 12) ++ high_first 12 (crc12 (covered vs))) in
+    let tail : List ℕ = packed_bytes 2 (field vs (8 * n - 16) (8 * n - 12) ++ high_first 12 (crc12 (covered vs))) in
     length-append (take (n - 2) vs) tail
     ∙ ap₂ (λ (a b : ℕ). a + b) (length-take-le (n - 2) vs (omega arith)) (length_packed 2 (field vs (8 * n - 16) (8 * n - 12) ++ high_first 12 (crc12 (covered vs))))
     ∙ (let e : n - 2 + 2 ≡ n = omega arith in e)

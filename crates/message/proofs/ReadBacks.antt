@@ -1,7 +1,7 @@
 -- Every message block is read as what it was made from.
 use Rattle.std.proofs.Common.{◌≡◌, ℕ, suc, ◌+◌, Bool, true, false, eqb, List, [], ◌∷◌, Some, None, Option, refl, ap, ◌∙◌}
 use Rattle.block.specs.declared.Block.{Block}
-use Rattle.bits.specs.Bits.{low_first, high_first, bits, packed}
+use Rattle.bits.specs.Bits.{low_first, high_first, bits, packed_bytes}
 use Rattle.crc.specs.Remainder.{reduce, step}
 use Rattle.message.specs.declared.Kind.{Kind}
 use Rattle.message.specs.declared.Kind.TheVariants.{Basic, Aps, Cv, OneDm, TwoDmm, TwoDmr, Cs}
@@ -57,5 +57,5 @@ pub blocks_read_back : (k : Kind) (us : List ℕ) → reads (message_blocks k us
 blocks_read_back k us = pairs_read_back k 0 us
 
 pub eleven : PayloadTypeEleven
-unfolding filled packed bits low_first high_first step reduce
+unfolding filled packed_bytes bits low_first high_first step reduce
 eleven = refl

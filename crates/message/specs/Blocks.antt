@@ -1,5 +1,9 @@
--- A message block: control, 4B, a head byte, two value bytes, 0C and three zeros.
--- The head byte holds the start mark in bit 0, the end mark in bit 1 and the kind's code in bits 2 to 7.
+-- A message block is a control block. Its bytes:
+--   0       4B, the type of an ordered set
+--   1       head: bit 0 is the start mark, bit 1 the end mark, and the six bits above are the code of the kind
+--   2, 3    values
+--   4       0C: the low half is the ordered set's code, and C is that of path messages
+--   5 to 7  zeros
 use Rattle.std.specs.Prelude.{ℕ, ◌+◌, ◌*◌, ◌/◌, ◌%◌, Bool, if◌then◌else◌, ◌&&◌, List, [], ◌∷◌, Some, None, Option, ◌==◌, slice_index, slice_index_or}
 use Rattle.block.specs.declared.Block.{Block}
 use Rattle.block.specs.declared.Sync.TheVariants.{Zeros, Control, Data, Ones}
@@ -18,7 +22,7 @@ abbrev pub message_block : Kind → Bool → Bool → ℕ → ℕ → Block
 message_block k starts ends first second =
     record { sync = Control; bytes = 0x4B ∷ head_of k starts ends ∷ first ∷ second ∷ 0x0C ∷ 0 ∷ 0 ∷ 0 ∷ [] }
 
--- what the bytes of a control block say: only type, head, values and the low half of byte 4 are read
+-- what the bytes of a control block say; the high half of byte 4 and the bytes behind it have no part in that
 abbrev pub bytes_say : List ℕ → Option MessageBlock
 bytes_say bytes =
     let head : ℕ = slice_index_or bytes 1 0 in

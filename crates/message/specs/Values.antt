@@ -1,6 +1,7 @@
--- The value bytes of a message: two a block. Their last 12 bits are the remainder of the bits before, by x^12 + x^11 + x^3 + x^2 + x + 1.
+-- The value bytes of a message: two a block. Their last 12 bits are the remainder of the bits before, by x^12 + x^11 + x^3 + x^2 + x + 1;
+-- the writer is given them with zeros there, since it fills them in.
 use Rattle.std.specs.Prelude.{ℕ, suc, ◌-◌, ◌*◌, Bool, true, false, not, ◌&&◌, List, [], ◌∷◌, ◌++◌, length, take, ◌==◌, nat_lt, slice_index}
-use Rattle.bits.specs.Bits.{field, high_first, packed}
+use Rattle.bits.specs.Bits.{field, high_first, packed_bytes}
 use Rattle.crc.specs.Remainder.{remainder}
 use Rattle.message.specs.declared.Kind.{Kind}
 use Rattle.message.specs.declared.Kind.TheVariants.{Basic, Aps, Cv, OneDm, TwoDmm, TwoDmr, Cs}
@@ -18,7 +19,7 @@ crc12 bs = remainder 12 0x180F bs
 unfoldable pub filled : List ℕ → List ℕ
 filled vs =
     let n : ℕ = length vs in
-    take (n - 2) vs ++ packed 2 (field vs (8 * n - 16) (8 * n - 12) ++ high_first 12 (crc12 (covered vs)))
+    take (n - 2) vs ++ packed_bytes 2 (field vs (8 * n - 16) (8 * n - 12) ++ high_first 12 (crc12 (covered vs)))
 
 -- the byte with the first four bits of the remainder is below this before they are filled in:
 -- CS has its payload type there in the two lowest bits, the others have zeros

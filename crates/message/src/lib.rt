@@ -25,9 +25,9 @@ pub enum Kind {
     Cv,
     /// One-way delay.
     OneDm,
-    /// Two-way delay.
+    /// Two-way delay, the question.
     TwoDmm,
-    /// Two-way delay response.
+    /// Two-way delay, the response.
     TwoDmr,
     /// Client signal.
     Cs,
@@ -194,7 +194,8 @@ pub fn basic(mark: Mark) -> Block
 }
 
 // Kind and values stay two parameters, here and in `lawful`: a type of lawful values would need a call that refuses, as this one does.
-/// Writes the blocks of a message to the front of the output, and answers how many.
+/// Writes the blocks of a message to the front of the output, and answers how many. The values are two bytes for each block of the kind,
+/// with zeros in the twelve places of the remainder and in the four before them, of which CS uses the first two.
 /// Refused are values that are not lawful (10), and then an output with too few places (12); the output is then as before.
 pub fn write(kind: Kind, values: &[u8], output: &mut [Block]) -> Result<usize, Refusal>
     ensures answer { result ≡ answer kind values.now output.old }

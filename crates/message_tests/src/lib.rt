@@ -1,5 +1,6 @@
 //! Examples of path messages, written and collected, as tables.
-//! Expected blocks and values are the standard's test vectors for 1DM, the value for CS, and others worked by hand.
+//! Expected are the standard's test vectors for 1DM, their blocks worked out by the format, the block of CS with payload type 11, and others
+//! worked by hand.
 //! Main promise: none of its own; each table is run against the crates `message` and `collector`.
 #![tactic(auto)]
 

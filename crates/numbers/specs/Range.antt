@@ -2,11 +2,10 @@
 use Rattle.std.specs.Prelude.{ℕ, ◌+◌, ◌≤◌, Bool, false, if◌then◌else◌, Some, None, Ok, Err, Option, Result, nat_le, nat_lt}
 use Rattle.refusal.specs.declared.Refusal.{Refusal}
 use Rattle.refusal.specs.declared.Refusal.TheVariants.{OutOfRange}
-use Rattle.numbers.specs.declared.TheConstants.{SLOTS}
 
 -- slots of a frame and of a calendar, frames of a multiframe, and so clients at most
 abbrev pub slots : ℕ
-slots = SLOTS
+slots = 480
 
 -- what every client or slot number is
 abbrev pub IsOneTo480 : ℕ → Type 0

@@ -5,12 +5,12 @@ use Rattle.std.proofs.lemmas.Nat.{and_mask}
 use Rattle.std.specs.Int.{reverse_bits_onto}
 use Rattle.std.proofs.lemmas.List.{length-take, length-drop, take-append-drop, take-take, same_lists, places}
 use Rattle.std.proofs.lemmas.Bool.{eq-eqb, ne_eqb, le-ltb}
-use Rattle.bits.specs.Bits.{low_first, high_first, bits, field}
-use Rattle.crc.specs.Laws.{value, Detects}
+use Rattle.bits.specs.Bits.{low_first, high_first, high_value, bits, field}
+use Rattle.crc.specs.Laws.{Detects}
 use Rattle.crc.specs.Remainder.{remainder}
-use Rattle.crc.proofs.Laws.{run_lt, appended, high_value}
+use Rattle.crc.proofs.Laws.{onto_lt, appended}
 use Rattle.bits.proofs.Places.{length_bits}
-use Rattle.crc.proofs.Values.{value_high}
+use Rattle.bits.proofs.Values.{high_value_is, value_high}
 use Rattle.crc.proofs.Detect.{detects}
 use Rattle.crc.proofs.Generators.{seven}
 use Rattle.overhead.specs.Format.{Fields, fields_in, covered_bits, overhead_bits, remainder_of, read_word, read_bytes}
@@ -22,17 +22,17 @@ use Rattle.overhead.specs.declared.OverheadFault.TheVariants.{WrongRemainder, Cl
 
 -- ---- the four answers
 abbrev pub right : List Bool → Type 0
-right word = value (drop 39 word) ≡ remainder_of (take 39 word)
+right word = high_value (drop 39 word) ≡ remainder_of (take 39 word)
 
 pub read_wrong : (word : List Bool) → (right word → ⊥) → read_word word ≡ Err WrongRemainder
 unfolding read_word
-read_wrong word h = simp (ne_eqb (value (drop 39 word)) (remainder_of (take 39 word)) h)
+read_wrong word h = simp (ne_eqb (high_value (drop 39 word)) (remainder_of (take 39 word)) h)
 
 pub read_fields : (word : List Bool) (f : Fields) → right word → fields_in word ≡ f → f.entry ≤ 480 → f.frame ≤ 479 → read_word word ≡ Ok f
 unfolding read_word
 read_fields word f r e h k =
     simp (
-      eq-eqb (value (drop 39 word)) (remainder_of (take 39 word)) r,
+      eq-eqb (high_value (drop 39 word)) (remainder_of (take 39 word)) r,
       ap (λ (g : Fields). ltb 480 g.entry) e ∙ le-ltb 480 f.entry h,
       ap (λ (g : Fields). ltb 479 g.frame) e ∙ le-ltb 479 f.frame k,
     )
@@ -47,7 +47,7 @@ both (Ok n) (Ok m) = Ok (record { entry = n; frame = m })
 read_both : (word : List Bool) → right word → read_word word ≡ both (read_entry (fields_in word).entry) (read_frame_number (fields_in word).frame)
 unfolding read_word
 read_both word r =
-    simp (eq-eqb (value (drop 39 word)) (remainder_of (take 39 word)) r)
+    simp (eq-eqb (high_value (drop 39 word)) (remainder_of (take 39 word)) r)
     (go (ltb 480 (fields_in word).entry) (ltb 479 (fields_in word).frame))
   where
     go : (p q : Bool)
@@ -72,7 +72,7 @@ word_fields f r h k =
 word_right : (f : Fields) → right (covered_bits f ++ high_first 7 (remainder_of (covered_bits f)))
 unfolding high_first covered_bits
 word_right f =
-    value_high 7 (remainder_of (covered_bits f)) ∙ mod-eq_of_lt (run_lt 7 0xB7 (covered_bits f) 0 refl (pow_pos 7))
+    value_high 7 (remainder_of (covered_bits f)) ∙ mod-eq_of_lt (onto_lt 7 0xB7 (covered_bits f) 0 refl (pow_pos 7))
 
 pub reads_back : (f : Fields) (bytes : List ℕ) → f.entry ≤ 480 → f.frame < 480 → bits bytes ≡ overhead_bits f → read_bytes bytes ≡ Ok f
 unfolding read_bytes
@@ -87,7 +87,7 @@ right_zero word l r =
     ap remainder_of
     (sym (take-append-drop 39 word)
     ∙ ap (λ (bs : List Bool). take 39 word ++ bs)
-    (sym (high_value (drop 39 word))
+    (sym (high_value_is (drop 39 word))
     ∙ ap₂ high_first (let n : length (drop 39 word) ≡ 7 = simp length-drop (omega arith) in n) r))
     ∙ appended 7 0xB7 (take 39 word) refl
 
@@ -123,7 +123,7 @@ abbrev pub word_in : List ℕ → ℕ
 word_in bytes = word_of (get_or bytes 0 0) (get_or bytes 1 0) (get_or bytes 2 0) (get_or bytes 3 0)
 
 pub record Read (bytes : List ℕ) : Type 0 where
-  pub rest : value (drop 39 (field bytes 10 56)) ≡ reverse_bits_onto 8 (get_or bytes 6 0) 0 % 128
+  pub rest : high_value (drop 39 (field bytes 10 56)) ≡ reverse_bits_onto 8 (get_or bytes 6 0) 0 % 128
   pub covered : take 39 (field bytes 10 56) ≡ field bytes 10 49
   pub entry : (fields_in (field bytes 10 56)).entry ≡ numbers_in (word_in bytes) / 512 % 1024
   pub frame : (fields_in (field bytes 10 56)).frame ≡ numbers_in (word_in bytes) % 512
@@ -138,17 +138,17 @@ read bytes l h =
     = ap (λ (xs : List ℕ). field xs 10 56) (seven_bytes bytes l)
     ∙ word_read (get_or bytes 0 0) (get_or bytes 1 0) (get_or bytes 2 0) (get_or bytes 3 0) (get_or bytes 4 0) (get_or bytes 5 0) (get_or bytes 6 0) (h 0) (h 1) (h 2) (h 3) in
     record {
-      rest = ap (λ (w : List Bool). value (drop 39 w)) word ∙ value_high 7 (reverse_bits_onto 8 (get_or bytes 6 0) 0);
+      rest = ap (λ (w : List Bool). high_value (drop 39 w)) word ∙ value_high 7 (reverse_bits_onto 8 (get_or bytes 6 0) 0);
       covered = take-take 39 46 (drop 10 (bits bytes)) (lit≤ tt);
-      entry = ap (λ (w : List Bool). value (take 10 w)) word ∙ value_high 10 (numbers_in (word_in bytes) / 512);
-      frame = ap (λ (w : List Bool). value (take 9 (drop 10 w))) word ∙ value_high 9 (numbers_in (word_in bytes));
+      entry = ap (λ (w : List Bool). high_value (take 10 w)) word ∙ value_high 10 (numbers_in (word_in bytes) / 512);
+      frame = ap (λ (w : List Bool). high_value (take 9 (drop 10 w))) word ∙ value_high 9 (numbers_in (word_in bytes));
     }
 
 -- the remainder as the code computes it, and as it compares it
 pub covered_rest : (bytes : List ℕ) (d g r : ℕ) → r ≡ remainder d g (field bytes 10 49) → d ≡ 7 → g ≡ 0xB7 → r ≡ remainder_of (field bytes 10 49)
 covered_rest bytes d g r e p q = e ∙ ap₂ (λ (x y : ℕ). remainder x y (field bytes 10 49)) p q
 
-rest_is : (bytes : List ℕ) (x : ℕ) → Read bytes → x ≡ reverse_bits_onto 8 (get_or bytes 6 0) 0 → value (drop 39 (field bytes 10 56)) ≡ bit_and x 127
+rest_is : (bytes : List ℕ) (x : ℕ) → Read bytes → x ≡ reverse_bits_onto 8 (get_or bytes 6 0) 0 → high_value (drop 39 (field bytes 10 56)) ≡ bit_and x 127
 rest_is bytes x rd e = rd.rest ∙ ap (λ (y : ℕ). y % 128) (sym e) ∙ sym (and_mask x 7)
 
 pub code_wrong : (bytes : List ℕ) (x r : ℕ) → Read bytes → x ≡ reverse_bits_onto 8 (get_or bytes 6 0) 0 → r ≡ remainder_of (field bytes 10 49)

@@ -3,7 +3,8 @@ use Rattle.std.proofs.Common.{◌≡◌, ℕ, ◌+◌, ◌*◌, ◌/◌, ◌%◌
 use Rattle.std.specs.Int.{reverse_bits_onto}
 use Rattle.bits.specs.Bits.{low_first, high_first, bits, field}
 use Rattle.bits.proofs.Digits.{high_mod}
-use Rattle.bits.proofs.Digits.{low_join, high_join, low_zeros, high_zeros, low_mod, low_reversed, high_reversed}
+use Rattle.bits.proofs.Words.{low_append}
+use Rattle.bits.proofs.Digits.{low_join, high_join, low_zeros, high_zeros, low_reversed, high_reversed}
 
 -- the number that four bytes write, the lowest byte first
 abbrev pub word_of : ℕ → ℕ → ℕ → ℕ → ℕ
@@ -11,9 +12,7 @@ word_of b0 b1 b2 b3 = b0 + b1 * 256 + b2 * 65536 + b3 * 16777216
 
 -- a byte, and what stands above it
 byte_join : (k b n : ℕ) → b < 256 → low_first (8 + k) (n * 256 + b) ≡ low_first 8 b ++ low_first k n
-byte_join k b n h =
-    low_join 8 k (n * 256 + b)
-    ∙ ap₂ (λ (xs : List Bool) (m : ℕ). xs ++ low_first k m) (low_mod 8 b n h) (let e : (n * 256 + b) / 256 ≡ n = omega arith in e)
+byte_join k b n h = sym (low_append 8 k b n h ∙ ap (low_first (8 + k)) (let e : b + 256 * n ≡ n * 256 + b = omega arith in e))
 
 pub bits_seven : (b0 b1 b2 b3 b4 b5 b6 : ℕ) → b0 < 256 → b1 < 256 → b2 < 256 → b3 < 256
     → bits (b0 ∷ b1 ∷ b2 ∷ b3 ∷ b4 ∷ b5 ∷ b6 ∷ []) ≡ low_first 32 (word_of b0 b1 b2 b3) ++ (low_first 8 b4 ++ (low_first 8 b5 ++ low_first 8 b6))

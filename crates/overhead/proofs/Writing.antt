@@ -3,7 +3,7 @@ use Rattle.std.proofs.Common.{◌≡◌, ℕ, zero, suc, ◌+◌, ◌*◌, ◌/�
 use Rattle.std.specs.Int.Bits.{bit_or}
 use Rattle.std.specs.Int.{reverse_bits_onto}
 use Rattle.std.proofs.lemmas.Nat.{or_shifted}
-use Rattle.bits.specs.Bits.{odd, low_first, high_first, bits, field, packed}
+use Rattle.bits.specs.Bits.{odd, low_first, high_first, bits, field, packed_bytes}
 use Rattle.bits.proofs.Places.{numbered}
 use Rattle.bits.proofs.Digits.{low_reversed}
 use Rattle.std.proofs.lemmas.Bool.Decides.{nat_tests}
@@ -53,7 +53,7 @@ module _ (f : Fields) (w b0 b1 b2 b3 : ℕ) (t : Turned f w b0 b1 b2 b3) where
   pub bytes_written : (x : ℕ) → x < 256 → bits (b0 ∷ b1 ∷ b2 ∷ b3 ∷ 0 ∷ 0 ∷ x ∷ []) ≡ overhead_bits f
       → ◌≡◌ {A = List ℕ} (b0 ∷ b1 ∷ b2 ∷ b3 ∷ 0 ∷ 0 ∷ x ∷ []) (overhead_bytes f)
   unfolding overhead_bytes
-  bytes_written x h e = sym (numbered.packs (b0 ∷ b1 ∷ b2 ∷ b3 ∷ 0 ∷ 0 ∷ x ∷ []) fits) ∙ ap (packed 7) e
+  bytes_written x h e = sym (numbered.packs (b0 ∷ b1 ∷ b2 ∷ b3 ∷ 0 ∷ 0 ∷ x ∷ []) fits) ∙ ap (packed_bytes 7) e
     where
       fits : (i : ℕ) → i < 7 → get_or (b0 ∷ b1 ∷ b2 ∷ b3 ∷ 0 ∷ 0 ∷ x ∷ []) i 0 < 256
       fits zero l = t.bytes.0

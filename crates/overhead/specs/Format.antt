@@ -1,11 +1,12 @@
--- The seven overhead bytes of a frame, as 56 bits numbered from 0 in the order of sending:
---   bits 10 to 19  the client number announced, 0 for none      bits 20 to 28  the frame number
---   bits 49 to 55  the remainder of bits 10 to 48               each the highest bit first
--- All other bits are sent as zero and not read.
+-- The seven overhead bytes of a frame, as 56 bits numbered from 0 in the order of sending; a field of several bits has its highest first.
+--   0 to 9    zero when sent; a reader does not look at them
+--   10 to 19  the client number announced, 0 for none
+--   20 to 28  the frame number
+--   29 to 48  zero when sent; the remainder covers them, and a reader whose remainder fits takes any values
+--   49 to 55  the remainder of bits 10 to 48
 use Rattle.std.specs.Prelude.{ℕ, Bool, false, if◌then◌else◌, not, List, ◌++◌, take, drop, replicate, Ok, Err, Result, ◌==◌, nat_lt}
-use Rattle.bits.specs.Bits.{high_first, packed, field}
+use Rattle.bits.specs.Bits.{high_first, high_value, packed_bytes, field}
 use Rattle.crc.specs.Remainder.{remainder}
-use Rattle.crc.specs.Laws.{value}
 use Rattle.numbers.specs.Entries.{entry_of}
 use Rattle.overhead.specs.declared.Overhead.{Overhead}
 use Rattle.overhead.specs.declared.OverheadFault.{OverheadFault}
@@ -33,15 +34,15 @@ overhead_bits f = replicate 10 false ++ (covered_bits f ++ high_first 7 (remaind
 
 -- the bytes sent
 unfoldable pub overhead_bytes : Fields → List ℕ
-overhead_bytes f = packed 7 (overhead_bits f)
+overhead_bytes f = packed_bytes 7 (overhead_bits f)
 
 -- what bits 10 to 55 say
 abbrev pub fields_in : List Bool → Fields
-fields_in word = record { entry = value (take 10 word); frame = value (take 9 (drop 10 word)) }
+fields_in word = record { entry = high_value (take 10 word); frame = high_value (take 9 (drop 10 word)) }
 
 -- what each fault says of bits 10 to 55
 abbrev pub found : OverheadFault → List Bool → Bool
-found WrongRemainder word = not (value (drop 39 word) == remainder_of (take 39 word))
+found WrongRemainder word = not (high_value (drop 39 word) == remainder_of (take 39 word))
 found ClientTooHigh word = nat_lt 480 (fields_in word).entry
 found FrameTooHigh word = nat_lt 479 (fields_in word).frame
 

@@ -9,7 +9,7 @@ ghost use Rattle.bits.specs.Bits.{bits};
 ghost use Rattle.numbers.specs.Entries.{is_entry};
 ghost use Rattle.overhead.specs.Entry.{answered_entry, read_entry, read_frame_number};
 ghost use Rattle.overhead.specs.Format.{answered, fields_of, overhead_bits, overhead_bytes, read_bytes};
-ghost use Rattle.overhead.specs.Laws.{ChangesSeen, OthersNotRead, WorkedOverheads};
+ghost use Rattle.overhead.specs.Laws.{ChangesSeen, Coded, FieldsTell, InRangeRead, IsOverhead, OthersNotRead, WorkedOverheads};
 
 use crc::Generator;
 use numbers::{ClientNumber, FrameNumber};
@@ -41,6 +41,7 @@ impl Overhead {
         ensures bytes { result ≡ overhead_bytes (fields_of self) }
         ensures back { read_bytes result ≡ Ok (fields_of self) }
         ensures seen { ChangesSeen result }
+        ensures range { IsOverhead self }
     {
         let client = ClientNumber::entry(self.announced);
         let numbers = ((client as u32) << 9) | self.frame.number() as u32;
@@ -52,7 +53,7 @@ impl Overhead {
     /// What seven bytes say, or the first fault found; bits 0 to 9 are not looked at.
     pub fn read(bytes: &[u8; 7]) -> Result<Overhead, OverheadFault>
         ensures read { answered result ≡ read_bytes bytes.now }
-        ensures range { IfOk result (λ o. (is_entry o.announced ≡ true) × (o.frame < 480)) }
+        ensures range { IfOk result IsOverhead }
     {
         let [b0, b1, b2, b3, _, _, last] = *bytes;
         let remainder = Generator::degree_seven().remainder(bytes, 10, 49);
@@ -82,8 +83,11 @@ fn frame_number(number: u16) -> Result<FrameNumber, OverheadFault>
     FrameNumber::try_from(number).map_err(|_| OverheadFault::FrameTooHigh)
 }
 
-/// Bits 10 to 55 alone decide what is read, and the worked values.
+/// The overheads of all fields in range: read back, few changes seen, bits 10 to 55 alone decide what is read, and the worked values.
 pub fn format_holds()
+    ensures coded { Coded }
+    ensures range { InRangeRead }
+    ensures tell { FieldsTell }
     ensures others { OthersNotRead }
     ensures worked { WorkedOverheads }
 {}
@@ -92,6 +96,14 @@ pub fn format_holds()
 mod tests {
     use super::*;
     use std::test::Fail;
+
+    // That what was written is read back can be proved of every caller's overhead.
+    #[tactic(auto, using(crate::proofs::Coding::same_read))]
+    fn written_and_read(overhead: Overhead) -> Result<Overhead, OverheadFault>
+        ensures { result ≡ Ok overhead }
+    {
+        Overhead::read(&overhead.write())
+    }
 
     fn read_numbers(bytes: &[u8; 7]) -> Result<(u16, u16), OverheadFault> {
         let overhead = Overhead::read(bytes)?;
@@ -107,6 +119,7 @@ mod tests {
         let read = Overhead::read(&last_client)?;
         assert!(rt; read.announced.is_some());
         assert_eq!(rt; read.write(), last_client);
+        assert_eq!(rt; written_and_read(read), Ok(read));
         assert_eq!(rt; read_numbers(&client_one), Ok((1, 0)));
         assert_eq!(rt; read_numbers(&last_client), Ok((480, 479)));
         assert_eq!(rt; read_numbers(&[0; 7]), Ok((0, 0)), "no client");

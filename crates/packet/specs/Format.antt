@@ -12,7 +12,7 @@ in_range n = if nat_le 64 n then nat_le n 2000 else false
 abbrev pub opening : Block
 opening = record { sync = Control; bytes = 0x78 ∷ 0x55 ∷ 0x55 ∷ 0x55 ∷ 0x55 ∷ 0x55 ∷ 0x55 ∷ 0xD5 ∷ [] }
 
--- the types of the ends that carry 0 to 7 bytes
+-- an end's type tells how many bytes it carries: the place of the type in this list
 abbrev pub end_types : List ℕ
 end_types = 0x87 ∷ 0x99 ∷ 0xAA ∷ 0xB4 ∷ 0xCC ∷ 0xD2 ∷ 0xE1 ∷ 0xFF ∷ []
 

@@ -24,7 +24,7 @@ const OPENING: Block = Block {
     bytes: [0x78, 0x55, 0x55, 0x55, 0x55, 0x55, 0x55, 0xD5],
 };
 
-// The types of the ends that carry 0 to 7 bytes.
+// An end's type tells how many bytes it carries: its place in this array.
 const END_TYPES: [u8; 8] = [0x87, 0x99, 0xAA, 0xB4, 0xCC, 0xD2, 0xE1, 0xFF];
 
 /// May a packet have so many bytes?
@@ -180,7 +180,9 @@ fn copy_bytes(blocks: &[Block], extent: Extent, out: &mut [u8])
 }
 
 /// Reads the packet at the front of the blocks into the front of the output.
-/// Answers its length and the blocks from the start to the end, both included.
+/// Answers its length and the blocks from the start to the end, both included; the idle behind the end is not counted.
+/// Refused with `NoPacket` where no packet stands there, one of a length that no packet may have included, and then with
+/// `OutputTooShort`.
 pub fn read(blocks: &[Block], out: &mut [u8]) -> Result<(usize, usize), Refusal>
     ensures answer { result ≡ read_answer (packet_at blocks.now) (length out.old) }
     ensures output { out.new ≡ leaves result (bytes_of (packet_at blocks.now)) out.old }

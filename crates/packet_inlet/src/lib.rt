@@ -1,4 +1,4 @@
-//! An inlet that gives one client the blocks of its packets, which are lent as lengths and joined bytes.
+//! An inlet of a single client. Its list is made from packets, which the caller lends as two slices: all their bytes, and their lengths.
 //! Each packet's blocks come in order: its start block, its data blocks, its end and one idle; then the next packet's.
 //! Main promise: a new inlet's list is exactly the blocks of all its packets, and each call gives and removes the first.
 #![tactic(auto)]

@@ -16,8 +16,7 @@ use refusal::Refusal;
 /// What a line says.
 #[derive(Clone, Copy, Debug, PartialEq, Eq)]
 pub struct PacketLine {
-    /// The client's number as it is written, 0 to 999. It may be no client's: out of range is the caller's refusal, behind the form
-    /// and behind the packet's length.
+    /// The client's number as it is written, 0 to 999. It may be no client's: that it is out of range is for the caller to refuse.
     pub client: u16,
     /// Bytes of the packet.
     pub length: usize,

@@ -1,6 +1,7 @@
 //! The program `packets`: carries the packets of its input lines through a tape that all clients share, and prints each as it comes out.
 //! First every packet is put into the tape, pair by pair; then, line by line again, it is taken out and read back.
-//! Main promise: none of its own; `packet_text`, `transfer` and `packet_report` read, carry and print, and `main` reads and writes bytes.
+//! Main promise: what becomes of one line when it is stored (`store_line`) and when it is carried (`carry_line`). That `main` does so with
+//! each line of the input, in order, is tested.
 #![tactic(auto)]
 
 ghost use Rattle.std.specs.Prelude.{◌≤◌, IfErr, IfOk, length, take};

@@ -1,6 +1,6 @@
-pub mod Laws
+pub mod Halves
 pub mod Reading
 pub mod Writing
 pub mod Back
 pub mod Slots
-pub mod Numbering
+pub mod Payloads

@@ -1,66 +1,36 @@
 -- Slots in a whole payload: what is written to one is read from it, and all of them make up the payload.
-use Rattle.std.proofs.Common.{◌≡◌, ℕ, zero, suc, ◌+◌, ◌-◌, ◌*◌, ◌<◌, ◌≤◌, List, [], ◌∷◌, ◌++◌, map, length, get_or, take, drop, set, sym, refl, ap, ◌∙◌, ⊎_elim, append_assoc, arith, length-append, length-drop, below_more}
+use Rattle.std.proofs.Common.{◌≡◌, ℕ, zero, suc, ◌+◌, ◌-◌, ◌*◌, ◌<◌, ◌≤◌, Bool, List, [], ◌∷◌, ◌++◌, map, length, get_or, take, drop, set, sym, refl, ap, ◌∙◌, ⊎_elim, append_assoc, arith, length-append, length-drop, below_more}
 use Rattle.std.specs.List.{range_with_len, flat_map}
+use Rattle.std.proofs.Math.Seq.{take-add}
 use Rattle.std.proofs.lemmas.List.FromFn.{get_or-map-range_with_len, length-map-range_with_len}
-use Rattle.std.proofs.lemmas.List.{drop_at, drop-drop, drop-append-le, drop-take, ext_get_or, get_or-set_other, get_or-set_same, flat_map_more, length-set, length-take-le, take_all, take_more, take-append-le, take_at, take-take}
+use Rattle.std.proofs.lemmas.List.{drop_at, drop-drop, ext_get_or, get_or-set_other, get_or-set_same, flat_map_more, length-set, length-take-le, take_all, take_more, take_at}
 use Rattle.std.proofs.lemmas.Bool.{cases_order}
 use Rattle.block.specs.declared.Sync.TheVariants.{Zeros}
 use Rattle.block.specs.Whole.{Bytes, WholePair}
 use Rattle.block.specs.declared.Pair.{Pair}
-use Rattle.payload.specs.Bits.{bits, bytes_of, splice}
+use Rattle.bits.specs.Bits.{bits, packed_bytes}
+use Rattle.bits.specs.Splices.{splice}
+use Rattle.bits.proofs.Places.{length_bits, numbered}
+use Rattle.bits.proofs.Splices.{splice_above, splice_below, splice_same}
 use Rattle.payload.specs.Pairs.{pair_bits, pair_of}
 use Rattle.payload.specs.Payloads.{pair_at, pairs_of, payload_of}
-use Rattle.payload.proofs.Back.{Bits, bits_bits, bytes_back, drop_bits_bits, pair_back, pair_bits_back, pair_length, take_bits}
-use Rattle.payload.proofs.Laws.{length_bits}
-use Rattle.payload.proofs.Reading.{take_add}
+use Rattle.payload.proofs.Back.{pair_back, pair_bits_back, pair_length}
 
 -- what the code reads past the end of a list of pairs, which it never does
 abbrev pub blank : Pair
 blank = record { first = record { sync = Zeros; bytes = [] }; second = record { sync = Zeros; bytes = [] } }
 
-pub splice_same : (s n : ℕ) (new old : List ℕ) → s ≤ length old → length new ≡ n → take n (drop s (splice s new old)) ≡ new
-splice_same s n new old h e =
-    ap (λ (l : List ℕ). take n l) (drop_at (take s old) (new ++ drop (s + length new) old) s (length-take-le s old h))
-    ∙ take_at new (drop (s + length new) old) n e
-
--- what lies below the new bits stays
-splice_below : (s t n : ℕ) (new old : List ℕ) → s ≤ length old → t + n ≤ s → take n (drop t (splice s new old)) ≡ take n (drop t old)
-splice_below s t n new old h k =
-    let R : List ℕ = new ++ drop (s + length new) old in
-    let a : length (take s old) ≡ s = length-take-le s old h in
-    let e : t + (s - t) ≡ s = omega arith in
-    let m : drop t (take s old) ≡ take (s - t) (drop t old) = ap (λ (z : ℕ). drop t (take z old)) (sym e) ∙ drop-take t (s - t) old in
-    let l : length (drop t (take s old)) ≡ s - t = length-drop t (take s old) ∙ ap (λ (z : ℕ). z - t) a in
-    ap (λ (z : List ℕ). take n z) (drop-append-le t (take s old) R (omega arith))
-    ∙ take-append-le n (drop t (take s old)) R (omega arith)
-    ∙ ap (λ (z : List ℕ). take n z) m ∙ take-take n (s - t) (drop t old) (omega arith)
-
--- and what lies above them
-splice_above : (s t : ℕ) (new old : List ℕ) → s ≤ length old → s + length new ≤ t → drop t (splice s new old) ≡ drop t old
-splice_above s t new old h k =
-    let r : ℕ = t - (s + length new) in
-    let e : t ≡ s + length new + (t - (s + length new)) = omega arith in
-    let N : List ℕ = splice s new old in
-    ap (λ (z : ℕ). drop z N) e ∙ sym (drop-drop r (s + length new) N)
-    ∙ ap (λ (z : List ℕ). drop r z) (sym (drop-drop (length new) s N)
-    ∙ ap (λ (z : List ℕ). drop (length new) z) (drop_at (take s old) (new ++ drop (s + length new) old) s (length-take-le s old h))
-    ∙ drop_at new (drop (s + length new) old) (length new) refl)
-    ∙ drop-drop r (s + length new) old ∙ ap (λ (z : ℕ). drop z old) (sym e)
-
 -- the first i slots and one more
-pub pack_more : (i j : ℕ) (B C X : List ℕ) → j ≡ i + 1 → 132 * i ≤ length B → length X ≡ 132 → C ≡ splice (132 * i) X B →
+pub pack_more : (i j : ℕ) (B C X : List Bool) → j ≡ i + 1 → 132 * i ≤ length B → length X ≡ 132 → C ≡ splice (132 * i) X B →
     take (132 * j) C ≡ take (132 * i) B ++ X
 pack_more i j B C X f h k e =
-    let R : List ℕ = drop (132 * i + length X) B in
+    let R : List Bool = drop (132 * i + length X) B in
     let m : length (take (132 * i) B ++ X) ≡ 132 * j = length-append (take (132 * i) B) X ∙ omega (arith, length-take-le (132 * i) B h) in
-    ap (λ (z : List ℕ). take (132 * j) z) (e ∙ sym (append_assoc (take (132 * i) B) X R)) ∙ take_at (take (132 * i) B ++ X) R (132 * j) m
+    ap (λ (z : List Bool). take (132 * j) z) (e ∙ sym (append_assoc (take (132 * i) B) X R)) ∙ take_at (take (132 * i) B ++ X) R (132 * j) m
 
 -- the bits of slot i + 1 lie within the payload
 slot_length : (p : List ℕ) (i : ℕ) → length p ≡ 7920 → i < 480 → length (take 132 (drop (132 * i) (bits p))) ≡ 132
 slot_length p i h k = length-take-le 132 (drop (132 * i) (bits p)) (omega (arith, length-drop (132 * i) (bits p), length_bits p))
-
-slot_is_bits : (p : List ℕ) (i : ℕ) → Bits (take 132 (drop (132 * i) (bits p)))
-slot_is_bits p i = take_bits 132 (drop (132 * i) (bits p)) (drop_bits_bits (132 * i) (bits p) (bits_bits p))
 
 -- a pair that has the bits of a slot is the pair of the slot
 pub pair_at_is : (p : List ℕ) (k s : ℕ) (r : Pair) → s ≡ 132 * (k - 1) → WholePair r → pair_bits r ≡ take 132 (drop s (bits p)) → r ≡ pair_at k p
@@ -84,21 +54,21 @@ pairs_length p = length-map-range_with_len (λ k. pair_at k p) 1 480
 pub pairs_written : (p q : List ℕ) (i : ℕ) (r : Pair) → length p ≡ 7920 → i < 480 → WholePair r →
     bits q ≡ splice (132 * i) (pair_bits r) (bits p) → pairs_of q ≡ set (pairs_of p) i r
 pairs_written p q i r h k w e =
-    let B : List ℕ = bits p in
-    let X : List ℕ = pair_bits r in
+    let B : List Bool = bits p in
+    let X : List Bool = pair_bits r in
     let n : length (pair_bits r) ≡ 132 = pair_length r w in
     let m : 132 * i ≤ length (bits p) = omega (arith, length_bits p) in
     let here : (j : ℕ) → j ≡ i → get_or (set (pairs_of p) i r) j r ≡ pair_at (j + 1) q =
     λ j f. ap (λ (z : ℕ). get_or (set (pairs_of p) i r) z r) f ∙ get_or-set_same (pairs_of p) i r r (omega (arith, pairs_length p))
-    ∙ pair_at_is q (j + 1) (132 * i) r (omega arith) w (sym (ap (λ (z : List ℕ). take 132 (drop (132 * i) z)) e ∙ splice_same (132 * i) 132 X B m n)) in
+    ∙ pair_at_is q (j + 1) (132 * i) r (omega arith) w (sym (ap (λ (z : List Bool). take 132 (drop (132 * i) z)) e ∙ splice_same (132 * i) 132 X B m n)) in
     let other : (j : ℕ) → j < 480 → (j ≡ i → ⊥) → take 132 (drop (132 * (j + 1 - 1)) B) ≡ take 132 (drop (132 * (j + 1 - 1)) (bits q)) → get_or (set (pairs_of p) i r) j r ≡ pair_at (j + 1) q =
     λ j l f g. get_or-set_other (pairs_of p) i j r r f ∙ pairs_at p j r l ∙ ap pair_of g in
     sym (pairs_are (set (pairs_of p) i r) q r (length-set (pairs_of p) i r ∙ pairs_length p) (λ j l. ⊎_elim (here j)
     (λ f. ⊎_elim
     (λ (a : j < i). other j l (λ g. omega arith)
-    (sym (ap (λ (z : List ℕ). take 132 (drop (132 * (j + 1 - 1)) z)) e ∙ splice_below (132 * i) (132 * (j + 1 - 1)) 132 X B m (omega arith))))
+    (sym (ap (λ (z : List Bool). take 132 (drop (132 * (j + 1 - 1)) z)) e ∙ splice_below (132 * i) (132 * (j + 1 - 1)) 132 X B m (omega arith))))
     (λ (a : i < j). other j l (λ g. omega arith)
-    (sym (ap (λ (z : List ℕ). take 132 (drop (132 * (j + 1 - 1)) z)) e ∙ ap (λ (z : List ℕ). take 132 z) (splice_above (132 * i) (132 * (j + 1 - 1)) X B m (omega arith)))))
+    (sym (ap (λ (z : List Bool). take 132 (drop (132 * (j + 1 - 1)) z)) e ∙ ap (λ (z : List Bool). take 132 z) (splice_above (132 * i) (132 * (j + 1 - 1)) X B m (omega arith)))))
     f)
     (cases_order j i)))
 
@@ -110,8 +80,8 @@ joined_slot (p ∷ ps) zero d w h = take_at (pair_bits p) (flat_map pair_bits ps
 joined_slot (p ∷ ps) (suc i) d w h =
     let e : 132 * suc i ≡ 132 + 132 * i = omega arith in
     ap (λ (n : ℕ). take 132 (drop n (pair_bits p ++ flat_map pair_bits ps))) e
-    ∙ ap (λ (z : List ℕ). take 132 z) (sym (drop-drop (132 * i) 132 (pair_bits p ++ flat_map pair_bits ps)))
-    ∙ ap (λ (z : List ℕ). take 132 (drop (132 * i) z)) (drop_at (pair_bits p) (flat_map pair_bits ps) 132 (pair_length p (w 0 (omega arith))))
+    ∙ ap (λ (z : List Bool). take 132 z) (sym (drop-drop (132 * i) 132 (pair_bits p ++ flat_map pair_bits ps)))
+    ∙ ap (λ (z : List Bool). take 132 (drop (132 * i) z)) (drop_at (pair_bits p) (flat_map pair_bits ps) 132 (pair_length p (w 0 (omega arith))))
     ∙ joined_slot ps i d (λ j l. w (suc j) (omega arith)) (omega arith)
 
 -- a payload that has the bits of the pairs, one pair after the other, holds just these pairs
@@ -119,12 +89,12 @@ pub pairs_packed : (p : List ℕ) (ps : List Pair) (d : Pair) → length ps ≡ 
     bits p ≡ flat_map pair_bits ps → pairs_of p ≡ ps
 pairs_packed p ps d h w e =
     sym (pairs_are ps p d h (λ i l. pair_at_is p (i + 1) (132 * i) (get_or ps i d) (omega arith) (w i l)
-    (sym (ap (λ (z : List ℕ). take 132 (drop (132 * i) z)) e ∙ joined_slot ps i d (λ j m. w j (omega arith)) (omega arith)))))
+    (sym (ap (λ (z : List Bool). take 132 (drop (132 * i) z)) e ∙ joined_slot ps i d (λ j m. w j (omega arith)) (omega arith)))))
 
 -- and is the one payload that does
 pub payload_is : (p : List ℕ) (ps : List Pair) → length p ≡ 7920 → Bytes p → bits p ≡ flat_map pair_bits ps → p ≡ payload_of ps
 unfolding payload_of
-payload_is p ps h t e = sym (ap (λ (z : List ℕ). bytes_of 7920 z) (sym e) ∙ ap (λ (n : ℕ). bytes_of n (bits p)) (sym h) ∙ bytes_back p t)
+payload_is p ps h t e = sym (ap (λ (z : List Bool). packed_bytes 7920 z) (sym e) ∙ ap (λ (n : ℕ). packed_bytes n (bits p)) (sym h) ∙ numbered.packs p (λ i h. t i))
 
 slices : (p : List ℕ) (a n : ℕ) → length p ≡ 7920 → a + n ≤ 480 →
     flat_map pair_bits (map (λ k. pair_at k p) (range_with_len (a + 1) n)) ≡ take (132 * n) (drop (132 * a) (bits p))
@@ -135,11 +105,11 @@ slices p a (suc n) h k =
     let g : 132 * a + 132 ≡ 132 * (a + 1) = omega arith in
     let one : pair_bits (pair_at (a + 1) p) ≡ take 132 (drop (132 * a) (bits p)) =
     ap (λ (z : ℕ). pair_bits (pair_of (take 132 (drop z (bits p))))) e
-    ∙ pair_bits_back (take 132 (drop (132 * a) (bits p))) (slot_length p a h (omega arith)) (slot_is_bits p a) in
-    ap (λ (z : List ℕ). z ++ flat_map pair_bits (map (λ k. pair_at k p) (range_with_len (a + 1 + 1) n))) one
-    ∙ ap (λ (z : List ℕ). take 132 (drop (132 * a) (bits p)) ++ z) (slices p (a + 1) n h (omega arith)
-    ∙ ap (λ (z : ℕ). take (132 * n) (drop z (bits p))) (sym g) ∙ ap (λ (z : List ℕ). take (132 * n) z) (sym (drop-drop 132 (132 * a) (bits p))))
-    ∙ sym (ap (λ (z : ℕ). take z (drop (132 * a) (bits p))) f ∙ take_add 132 (132 * n) (drop (132 * a) (bits p)))
+    ∙ pair_bits_back (take 132 (drop (132 * a) (bits p))) (slot_length p a h (omega arith)) in
+    ap (λ (z : List Bool). z ++ flat_map pair_bits (map (λ k. pair_at k p) (range_with_len (a + 1 + 1) n))) one
+    ∙ ap (λ (z : List Bool). take 132 (drop (132 * a) (bits p)) ++ z) (slices p (a + 1) n h (omega arith)
+    ∙ ap (λ (z : ℕ). take (132 * n) (drop z (bits p))) (sym g) ∙ ap (λ (z : List Bool). take (132 * n) z) (sym (drop-drop 132 (132 * a) (bits p))))
+    ∙ sym (ap (λ (z : ℕ). take z (drop (132 * a) (bits p))) f ∙ take-add 132 (132 * n) (drop (132 * a) (bits p)))
 
 -- the pairs of a payload, one after the other, are its bits
 pub pairs_joined : (p : List ℕ) → length p ≡ 7920 → flat_map pair_bits (pairs_of p) ≡ bits p
@@ -150,13 +120,13 @@ pub unpacking_undone : (p : List ℕ) → length p ≡ 7920 → Bytes p → payl
 unpacking_undone p h t = sym (payload_is p (pairs_of p) h t (sym (pairs_joined p h)))
 
 -- two slots more, while packing
-one_joined : (ps : List Pair) (i j : ℕ) (B C : List ℕ) → j ≡ i + 1 → i < length ps → 132 * i ≤ length B → WholePair (get_or ps i blank) →
+one_joined : (ps : List Pair) (i j : ℕ) (B C : List Bool) → j ≡ i + 1 → i < length ps → 132 * i ≤ length B → WholePair (get_or ps i blank) →
     C ≡ splice (132 * i) (pair_bits (get_or ps i blank)) B → take (132 * i) B ≡ flat_map pair_bits (take i ps) →
     take (132 * j) C ≡ flat_map pair_bits (take j ps)
 one_joined ps i j B C e h k w s g =
-    let X : List ℕ = pair_bits (get_or ps i blank) in
+    let X : List Bool = pair_bits (get_or ps i blank) in
     pack_more i j B C X e k (pair_length (get_or ps i blank) w) s
-    ∙ ap (λ (z : List ℕ). z ++ X) g
+    ∙ ap (λ (z : List Bool). z ++ X) g
     ∙ flat_map_more pair_bits [] (take i ps) (get_or ps i blank)
     ∙ ap (λ (z : List Pair). flat_map pair_bits z) (sym (take_more ps i blank h))
     ∙ ap (λ (n : ℕ). flat_map pair_bits (take n ps)) (sym e)

@@ -1,4 +1,4 @@
-pub mod Bits
 pub mod Pairs
 pub mod Payloads
 pub mod Places
+pub mod Laws

@@ -5,11 +5,14 @@
 
 ghost use Rattle.std.specs.Prelude.{◌≡◌, ◌+◌, ◌-◌, ◌*◌, ◌<◌, ◌≤◌, ◌⊎◌, ◌++◌, length, take, drop, slice_set};
 ghost use Rattle.block.specs.Whole.{Bytes, Whole, WholePair};
-ghost use Rattle.payload.specs.Bits.{BitsAreNumbered, bits, low, splice};
+ghost use Rattle.bits.specs.Bits.{bits, low_first};
+ghost use Rattle.numbers.specs.Range.{IsOneTo480};
+ghost use Rattle.payload.specs.Laws.{PayloadLaws};
+ghost use Rattle.bits.specs.Splices.{splice};
 ghost use Rattle.payload.specs.Pairs.{block_bits, pair_bits};
 ghost use Rattle.payload.specs.Payloads.{pair_at, pairs_of, payload_of, slot_bit, slot_bits};
 ghost use Rattle.payload.specs.Places.{place_bit};
-ghost use Rattle.std.specs.List.{flat_map};
+ghost use Rattle.std.specs.List.{All, flat_map};
 
 mod slot_place;
 
@@ -21,18 +24,18 @@ use slot_place::{Place, Start};
 pub type Payload = [u8; 7920];
 
 // The eight bytes as a number, byte 0 the lowest.
-#[tactic(auto, using(crate::proofs::Reading::word_bits))]
+#[tactic(auto, using(bits::proofs::Words::word_bits))]
 fn word(bytes: &[u8; 8]) -> u64
-    ensures value { low 64 result ≡ bits bytes.now }
+    ensures value { low_first 64 result ≡ bits bytes.now }
     ensures whole { (length bytes.now ≡ 8) × Bytes bytes.now }
 {
     u64::from_le_bytes(*bytes)
 }
 
 // The block with these sync bits and eight bytes.
-#[tactic(auto, using(crate::proofs::Reading::sync_low, crate::proofs::Writing::bits_word, crate::proofs::Reading::mod_bytes))]
+#[tactic(auto, using(crate::proofs::Reading::sync_low, bits::proofs::Words::bits_word, crate::proofs::Reading::mod_bytes))]
 fn block(sync: u8, word: u64) -> Block
-    ensures sent { block_bits result ≡ low 2 sync ++ low 64 word }
+    ensures sent { block_bits result ≡ low_first 2 sync ++ low_first 64 word }
     ensures whole { Whole result }
 {
     Block {
@@ -43,10 +46,10 @@ fn block(sync: u8, word: u64) -> Block
 
 // The eight payload bytes from byte `at` on, as a number. That there are eight is asked here, in `put_word` and in frame's `data`: a type
 // for it would be made anew at each call, from a `Start` and 1, 8 or 9.
-#[tactic(auto, using(crate::proofs::Writing::bits_taken))]
+#[tactic(auto, using(crate::proofs::Writing::eight_taken))]
 fn word_at(payload: &Payload, at: usize) -> u64
     requires { at + 8 ≤ 7920 }
-    ensures { low 64 result ≡ take 64 (drop (8 * at) (bits payload.now)) }
+    ensures { low_first 64 result ≡ take 64 (drop (8 * at) (bits payload.now)) }
 {
     word(&<[u8; 8]>::try_from(&payload[at..at + 8]).unwrap())
 }
@@ -69,7 +72,7 @@ fn read_low(payload: &Payload, start: Start) -> Pair
 }
 
 // The pair that begins at bit 4 of a byte.
-#[tactic(auto, using(crate::proofs::Reading::high_pair, crate::proofs::Laws::half_high))]
+#[tactic(auto, using(crate::proofs::Reading::high_pair, crate::proofs::Halves::half_high))]
 fn read_high(payload: &Payload, start: Start) -> Pair
     ensures sent { pair_bits result ≡ take 132 (drop (8 * start.byte + 4) (bits payload.now)) }
     ensures whole { WholePair result }
@@ -88,7 +91,7 @@ fn read_high(payload: &Payload, start: Start) -> Pair
 #[tactic(auto, using(crate::proofs::Writing::put_word))]
 fn put_word(payload: &mut Payload, at: usize, word: u64)
     requires { at + 8 ≤ 7920 }
-    ensures { bits payload.new ≡ splice (8 * at) (low 64 word) (bits payload.old) }
+    ensures { bits payload.new ≡ splice (8 * at) (low_first 64 word) (bits payload.old) }
 {
     payload[at..at + 8].copy_from_slice(&word.to_le_bytes());
 }
@@ -99,7 +102,7 @@ fn put_half<const FROM: u32>(payload: &mut Payload, at: usize, half: u8)
     requires within { at < 7920 }
     requires small { half < 16 }
     requires from { (FROM ≡ 0) ⊎ (FROM ≡ 4) }
-    ensures { bits payload.new ≡ splice (8 * at + FROM) (low 4 half) (bits payload.old) }
+    ensures { bits payload.new ≡ splice (8 * at + FROM) (low_first 4 half) (bits payload.old) }
 {
     payload[at] = payload[at] & 0xf0 >> FROM | half << FROM;
 }
@@ -161,7 +164,8 @@ fn write_at(payload: &mut Payload, place: Place, pair: Pair)
 
 /// The bit of the payload at which a slot begins, counted from 0 in sending order: 132 for each slot before it.
 pub fn slot_bit(slot: SlotNumber) -> usize
-    ensures { result ≡ slot_bit slot }
+    ensures value { result ≡ slot_bit slot }
+    ensures range { IsOneTo480 slot }
 {
     match Place::of_slot(slot.index()) {
         Place::Low(start) => 8 * start.byte,
@@ -174,6 +178,8 @@ pub fn slot_bit(slot: SlotNumber) -> usize
 pub fn read_pair(payload: &Payload, slot: SlotNumber) -> Pair
     ensures made { result ≡ pair_at slot payload.now }
     ensures sent { pair_bits result ≡ slot_bits slot payload.now }
+    ensures whole { WholePair result }
+    ensures range { IsOneTo480 slot }
 {
     read_at(payload, Place::of_slot(slot.index()))
 }
@@ -183,6 +189,8 @@ pub fn read_pair(payload: &Payload, slot: SlotNumber) -> Pair
 pub fn write_pair(payload: &mut Payload, slot: SlotNumber, pair: Pair)
     ensures sent { bits payload.new ≡ splice (slot_bit slot) (pair_bits pair) (bits payload.old) }
     ensures made { pairs_of payload.new ≡ slice_set (pairs_of payload.old) (slot - 1) pair }
+    ensures whole { WholePair pair }
+    ensures range { IsOneTo480 slot }
 {
     write_at(payload, Place::of_slot(slot.index()), pair);
 }
@@ -192,6 +200,7 @@ pub fn pack(pairs: &[Pair; 480], payload: &mut Payload)
     ensures made { payload.new ≡ payload_of pairs.now }
     ensures sent { bits payload.new ≡ flat_map pair_bits pairs.now }
     ensures undone { pairs_of payload.new ≡ pairs.now }
+    ensures whole { All WholePair pairs.now }
 {
     // By twos, so that each call's half of the byte is known. A loop over the pairs, which tests it, takes about twice as long, and one
     // over chunks of two 1.03 times as long.
@@ -214,6 +223,7 @@ fn hold_bytes(payload: &Payload)
 pub fn unpack(payload: &Payload, pairs: &mut [Pair; 480])
     ensures made { pairs.new ≡ pairs_of payload.now }
     ensures undone { payload_of pairs.new ≡ payload.now }
+    ensures whole { All WholePair pairs.new }
 {
     // By twos, as in `pack`: a loop over the pairs takes 1.6 times as long, and nothing is promised of what a slice ends as that
     // `as_chunks_mut` took apart.
@@ -223,10 +233,10 @@ pub fn unpack(payload: &Payload, pairs: &mut [Pair; 480])
     }
 }
 
-/// The law by which the numbering of bits is believed: bit r of byte q is sent as bit 8 q + r.
-#[tactic(auto, using(crate::proofs::Numbering::numbered))]
-pub fn bits_are_numbered()
-    ensures { BitsAreNumbered }
+/// How whole payloads and the pairs in their slots are made of each other.
+#[tactic(auto, using(crate::proofs::Payloads::payload_laws))]
+pub fn payload_laws()
+    ensures { PayloadLaws }
 {}
 
 #[cfg(test)]

@@ -1,2 +1,4 @@
 pub mod Model
 pub mod Pairs
+pub mod Runs
+pub mod Chain

@@ -1,15 +1,19 @@
 //! Inlets and outlets: the places where clients' blocks come from and go to, as two traits; a store, which is both, is a third.
 //! The meaning of each is a list of blocks for each client, which its calls change and its makers show.
-//! Main promise: no call for one client changes another client's list.
+//! Main promise: no call for one client changes another client's list, and what several puts add is just the pairs accepted.
 #![tactic(auto)]
 
 ghost use Rattle.std.specs.Prelude.{◌≡◌};
-ghost use Rattle.port.specs.Model.{Lists, Holding, Put, first_of, rest_of, taken};
-ghost use Rattle.port.specs.Pairs.{first_two, or_filler, left_by};
+ghost use Rattle.port.specs.Model.{Lists, Holding, Put, first_of, lists_after_next, put_answer};
 
-use block::Block;
+mod chain;
+mod runs;
+
+use block::{Block, Pair};
+pub use chain::{chain_laws, put_offers};
 use numbers::ClientNumber;
 use refusal::Refusal;
+pub use runs::{move_pair, move_pairs, next_pair, take_blocks};
 
 /// Where a client's blocks wait.
 pub trait Inlet {
@@ -19,7 +23,7 @@ pub trait Inlet {
     /// The client's first block, which is removed, or none where no block waits.
     fn next(&mut self, client: ClientNumber) -> Option<Block>
         ensures first { result ≡ first_of (waiting self.old client) }
-        ensures rest { waiting self.new ≡ taken client (waiting self.old) };
+        ensures rest { waiting self.new ≡ lists_after_next client (waiting self.old) };
 }
 
 /// Where a client's blocks are put, two at a time.
@@ -32,8 +36,9 @@ pub trait Outlet {
         ensures { result ≡ (holding self.now).free client };
 
     /// Appends the pair to the client's list, or refuses it with `NoFreePlace` where two places are not free.
-    fn put(&mut self, client: ClientNumber, a: Block, b: Block) -> Result<(), Refusal>
-        ensures put { Put client a b result (holding self.old) (holding self.new) };
+    fn put(&mut self, client: ClientNumber, pair: Pair) -> Result<(), Refusal>
+        ensures answer { result ≡ put_answer ((holding self.old).free client) }
+        ensures put { Put client pair result (holding self.old) (holding self.new) };
 }
 
 /// An inlet and an outlet in one.
@@ -48,30 +53,11 @@ pub trait Store: Inlet + Outlet {
     ghost one_list: { (store : Self) → Self.Inlet.waiting store ≡ (Self.Outlet.holding store).held };
 }
 
-/// The client's first two blocks, which are removed.
-pub fn next_pair<I: Inlet>(inlet: &mut I, client: ClientNumber) -> (Option<Block>, Option<Block>)
-    ensures pair { result ≡ first_two (I.waiting inlet.old client) }
-    ensures rest { I.waiting inlet.new ≡ taken client (taken client (I.waiting inlet.old)) }
-{
-    let first = inlet.next(client);
-    let second = inlet.next(client);
-    (first, second)
-}
-
-/// Moves the client's first two blocks from the inlet to the outlet, with the filler for one that is missing.
-/// Where two places are not free it is refused with `NoFreePlace`, and takes nothing.
-pub fn move_pair<I: Inlet, O: Outlet>(
-    inlet: &mut I,
-    outlet: &mut O,
-    client: ClientNumber,
-    filler: Block,
-) -> Result<(), Refusal>
-    ensures from { I.waiting inlet.new ≡ left_by result client (I.waiting inlet.old) }
-    ensures to { Put client (or_filler filler (first_of (I.waiting inlet.old client))) (or_filler filler (first_of (rest_of (I.waiting inlet.old client)))) result (O.holding outlet.old) (O.holding outlet.new) }
-{
-    if outlet.free(client) < 2 {
-        return Err(Refusal::NoFreePlace);
-    }
-    let (a, b) = next_pair(inlet, client);
-    outlet.put(client, a.unwrap_or(filler), b.unwrap_or(filler))
+/// A pair for a client, to be put into an outlet.
+#[derive(Clone, Copy, Debug, PartialEq, Eq)]
+pub struct Offer {
+    /// Whose list it is for.
+    pub client: ClientNumber,
+    /// The two blocks.
+    pub pair: Pair,
 }

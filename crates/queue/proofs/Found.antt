@@ -5,7 +5,7 @@ use Rattle.std.proofs.lemmas.Bool.{ltb-false}
 use Rattle.std.proofs.lemmas.List.{take_all, drop_all, append-nil}
 use Rattle.std.proofs.lemmas.List.Folds.{find_at}
 use Rattle.std.proofs.lemmas.Option.{slice_get_past}
-use Rattle.queue.specs.Entries.{first_with, without_first}
+use Rattle.queue.specs.Entries.{first_with, without_first_with}
 
 remove_past : {T : Type 0} (es : List T) (i : ℕ) → length es ≤ i → remove es i ≡ es
 remove_past es i h = rw (take_all i es h, drop_all (suc i) es (omega arith)) (append-nil es)
@@ -14,11 +14,11 @@ module _ {T : Type 0} (key : T → ℕ) (k : ℕ) where
   abbrev has_key : T → Bool
   has_key x = key x == k
 
-  without_at : (es : List T) → without_first key k es ≡ remove es (position_or_len has_key es)
+  without_at : (es : List T) → without_first_with key k es ≡ remove es (position_or_len has_key es)
   without_at [] = refl
   without_at (x ∷ es) = go (has_key x) (without_at es)
     where
-      go : (t : Bool) → without_first key k es ≡ remove es (position_or_len has_key es) → cond t es (x ∷ without_first key k es) ≡ remove (x ∷ es) (cond (not t) (1 + position_or_len has_key es) 0)
+      go : (t : Bool) → without_first_with key k es ≡ remove es (position_or_len has_key es) → cond t es (x ∷ without_first_with key k es) ≡ remove (x ∷ es) (cond (not t) (1 + position_or_len has_key es) 0)
       go true e = refl
       go false e = let next : 1 + position_or_len has_key es ≡ suc (position_or_len has_key es) = omega arith in rw next (ap (λ l. x ∷ l) e)
 
@@ -29,7 +29,7 @@ module _ {T : Type 0} (key : T → ℕ) (k : ℕ) where
       go true e = cc
       go false e = cc
 
-  pub rest_found : (es : List T) (i : ℕ) → Some i ≡ position has_key es → without_first key k es ≡ remove es i
+  pub rest_found : (es : List T) (i : ℕ) → Some i ≡ position has_key es → without_first_with key k es ≡ remove es i
   rest_found es i e = without_at es ∙ go (ltb (position_or_len has_key es) (length es)) e
     where
       go : (t : Bool) → Some i ≡ cond t (Some (position_or_len has_key es)) None → remove es (position_or_len has_key es) ≡ remove es i
@@ -46,5 +46,5 @@ module _ {T : Type 0} (key : T → ℕ) (k : ℕ) where
   pub first_none : (es : List T) → None ≡ position has_key es → first_with key k es ≡ None
   first_none es e = find_at has_key es ∙ slice_get_past es _ (none_past es e)
 
-  pub rest_none : (es : List T) → None ≡ position has_key es → without_first key k es ≡ es
+  pub rest_none : (es : List T) → None ≡ position has_key es → without_first_with key k es ≡ es
   rest_none es e = without_at es ∙ remove_past es _ (none_past es e)

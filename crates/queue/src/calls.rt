@@ -2,7 +2,7 @@
 
 ghost use Rattle.std.specs.Prelude.{◌≡◌, ◌<◌, ◌≤◌, ◌==◌, [], length, drop, position, IfSome, Some};
 ghost use Rattle.std.specs.List.{remove, slice_get};
-ghost use Rattle.queue.specs.Entries.{add_answer, added_by, contents, entries, first_with, free_places, place_count, without_first};
+ghost use Rattle.queue.specs.Entries.{add_answer, entries_after_add, queue_contents, entries, first_with, free_places, place_count, without_first_with};
 
 use crate::{Keyed, Queue};
 use refusal::Refusal;
@@ -10,7 +10,7 @@ use refusal::Refusal;
 impl<'a, T: Keyed + Copy> Queue<'a, T> {
     /// A queue without entries.
     pub fn new(places: &'a mut [T]) -> Queue<'a, T>
-        ensures { contents result ≡ record { entries = []; places = length places.old; lender = places.entry.ghost_name } }
+        ensures { queue_contents result ≡ record { entries = []; places = length places.old; lender = places.entry.ghost_name } }
     {
         Queue { places, len: 0 }
     }
@@ -64,7 +64,7 @@ impl<'a, T: Keyed + Copy> Queue<'a, T> {
     /// Adds an entry at the end, or refuses it where no place is free.
     pub fn add(&mut self, entry: T) -> Result<(), Refusal>
         ensures answer { result ≡ add_answer (free_places self.old) }
-        ensures contents { contents self.new ≡ record (contents self.old) { entries = added_by result (entries self.old) entry } }
+        ensures contents { queue_contents self.new ≡ record (queue_contents self.old) { entries = entries_after_add result (entries self.old) entry } }
     {
         let len = self.len;
         if len == self.places.len() {
@@ -78,7 +78,7 @@ impl<'a, T: Keyed + Copy> Queue<'a, T> {
     /// Removes the first entry.
     pub fn remove_first(&mut self) -> Option<T>
         ensures first { result ≡ slice_get (entries self.old) 0 }
-        ensures contents { contents self.new ≡ record (contents self.old) { entries = drop 1 (entries self.old) } }
+        ensures contents { queue_contents self.new ≡ record (queue_contents self.old) { entries = drop 1 (entries self.old) } }
     {
         if self.len == 0 {
             return None;
@@ -90,7 +90,7 @@ impl<'a, T: Keyed + Copy> Queue<'a, T> {
     #[tactic(auto, using(crate::proofs::Found::first_none, crate::proofs::Found::rest_none, crate::proofs::Found::first_found, crate::proofs::Found::rest_found))]
     pub fn remove_first_with(&mut self, key: u16) -> Option<T>
         ensures first { result ≡ first_with T.Keyed.key_of key (entries self.old) }
-        ensures contents { contents self.new ≡ record (contents self.old) { entries = without_first T.Keyed.key_of key (entries self.old) } }
+        ensures contents { queue_contents self.new ≡ record (queue_contents self.old) { entries = without_first_with T.Keyed.key_of key (entries self.old) } }
     {
         let index = self.find(key)?;
         Some(self.remove(index))
@@ -108,7 +108,7 @@ impl<'a, T: Keyed + Copy> Queue<'a, T> {
     fn remove(&mut self, index: usize) -> T
         requires { index < length (entries self.old) }
         ensures value { Some result ≡ slice_get (entries self.old) index }
-        ensures contents { contents self.new ≡ record (contents self.old) { entries = remove (entries self.old) index } }
+        ensures contents { queue_contents self.new ≡ record (queue_contents self.old) { entries = remove (entries self.old) index } }
     {
         let len = self.len;
         let entry = self.places[index];

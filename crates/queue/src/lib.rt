@@ -1,5 +1,5 @@
-//! A queue over memory that the caller lends, written once for every kind of entry; each kind names its key.
-//! It adds at the end, and removes the first entry or the first entry with a key; the others keep their order.
+//! A first-in first-out list in lent memory, generic over its entries. `Keyed` says of a type of entries which number an entry is found by,
+//! so that one can also be taken out of turn; those behind it move up.
 //! Main promise: each call's answer and the list of entries after it are those of the definitions in `Entries`.
 #![tactic(auto)]
 
@@ -17,7 +17,7 @@ pub trait Keyed {
 }
 
 /// Entries in lent places, of which the first `len` are in use.
-// a slice with a length beside it: the memory is lent, and this form is fixed for it
+// a slice with a length beside it and no `Vec`: the memory is the caller's, and a store on it works where there is no heap
 // no `impl Model`: it hides the places, and what the lender's memory holds after the loan was then not proved
 #[derive(Drop)]
 pub struct Queue<'a, T> {

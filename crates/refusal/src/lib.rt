@@ -23,9 +23,9 @@ pub enum Refusal {
     PacketLength,
     /// Fewer than two free places at an outlet, or none at a queue.
     NoFreePlace,
-    /// A message's kind or value bytes are wrong.
+    /// A message has no kind that can be written, or its value bytes are not those of the kind.
     MessageInvalid,
-    /// No packet stands at the front of the blocks.
+    /// No packet stands at the front of the blocks; blocks of another length than a packet may have are none.
     NoPacket,
     /// The output is too short.
     OutputTooShort,

@@ -14,7 +14,7 @@ mod tests {
     const SAMPLE: &[u8] =
         b"(client 7 (slots 1 4))\n(client 12 (slots 5 5) (slots 480 480))\n(client 3 (slots 6 7))\n";
 
-    // A calendar has the shares, each a client, its slot count and its first slot.
+    // A calendar has the shares: each is a client, how many slots it has, and the lowest.
     fn has_shares(
         rt: &impl Abort,
         calendar: &Calendar,

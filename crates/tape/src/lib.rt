@@ -1,13 +1,14 @@
 //! A tape: a store of blocks in one queue over lent entries, each tagged with its client; all clients share the places.
-//! A client has as many free places as the tape has places less all the blocks it holds; a removed block frees its place.
+//! A place that holds one client's block is free for nobody; once the block is taken out it is free for everybody.
 //! Main promise: the tape is an inlet and an outlet, and the list it holds for a client is the list that waits for it.
 #![tactic(auto)]
 
-ghost use Rattle.std.specs.Prelude.{◌≡◌, length};
-ghost use Rattle.port.specs.Model.{Put, empty_with, first_of, taken};
-ghost use Rattle.tape.specs.Lists.{after_next, after_put, contents, tape_lists, tape_holding};
+ghost use Rattle.std.specs.Prelude.{◌≡◌, [], length};
+ghost use Rattle.port.specs.Model.{Put, empty_with, first_of, lists_after_next, put_answer};
+ghost use Rattle.queue.specs.Entries.{without_first_with};
+ghost use Rattle.tape.specs.Lists.{client_of, entries_after_put, tape_holding_after_next, tape_holding_after_put, tape_contents, tape_entries, tape_holding, tape_lists};
 
-use block::{Block, Sync};
+use block::{Block, Pair, Sync};
 use numbers::ClientNumber;
 use port::{Inlet, Outlet, Store};
 use queue::{Keyed, Queue};
@@ -50,7 +51,8 @@ pub struct Tape<'a> {
 impl<'a> Tape<'a> {
     /// A tape that holds nothing, with as many places as there are entries.
     pub fn new(entries: &'a mut [TaggedBlock]) -> Tape<'a>
-        ensures { contents result ≡ record { holding = empty_with (λ _. length entries.old); lender = entries.entry.ghost_name } }
+        ensures holding { tape_holding result ≡ empty_with (λ _. length entries.old) }
+        ensures contents { tape_contents result ≡ record { entries = []; places = length entries.old; lender = entries.entry.ghost_name } }
     {
         Tape {
             queue: Queue::new(entries),
@@ -63,8 +65,9 @@ impl<'a> Inlet for Tape<'a> {
 
     fn next(&mut self, client: ClientNumber) -> Option<Block>
         ensures first { result ≡ first_of (tape_lists self.old client) }
-        ensures rest { tape_lists self.new ≡ taken client (tape_lists self.old) }
-        ensures contents { contents self.new ≡ record (contents self.old) { holding = after_next client (tape_holding self.old) } }
+        ensures rest { tape_lists self.new ≡ lists_after_next client (tape_lists self.old) }
+        ensures holding { tape_holding self.new ≡ tape_holding_after_next client (tape_holding self.old) }
+        ensures contents { tape_contents self.new ≡ record (tape_contents self.old) { entries = without_first_with client_of client (tape_entries self.old) } }
     {
         let entry = self.queue.remove_first_with(client.number())?;
         Some(entry.block)
@@ -78,16 +81,24 @@ impl<'a> Outlet for Tape<'a> {
         self.queue.free()
     }
 
-    fn put(&mut self, client: ClientNumber, a: Block, b: Block) -> Result<(), Refusal>
-        ensures put { Put client a b result (tape_holding self.old) (tape_holding self.new) }
-        ensures contents { contents self.new ≡ record (contents self.old) { holding = after_put result client a b (tape_holding self.old) } }
+    fn put(&mut self, client: ClientNumber, pair: Pair) -> Result<(), Refusal>
+        ensures answer { result ≡ put_answer ((tape_holding self.old).free client) }
+        ensures put { Put client pair result (tape_holding self.old) (tape_holding self.new) }
+        ensures holding { tape_holding self.new ≡ tape_holding_after_put result client pair (tape_holding self.old) }
+        ensures contents { tape_contents self.new ≡ record (tape_contents self.old) { entries = entries_after_put result client pair (tape_entries self.old) } }
     {
         if self.queue.free() < 2 {
             return Err(Refusal::NoFreePlace);
         }
         let client = client.number();
-        self.queue.add(TaggedBlock { client, block: a })?;
-        self.queue.add(TaggedBlock { client, block: b })
+        self.queue.add(TaggedBlock {
+            client,
+            block: pair.first,
+        })?;
+        self.queue.add(TaggedBlock {
+            client,
+            block: pair.second,
+        })
     }
 }
 

@@ -1,41 +1,16 @@
 -- A text laid into a buffer: its length, and one text after another.
-use Rattle.std.proofs.Common.{◌≡◌, ℕ, ◌+◌, ◌-◌, ◌<◌, ◌≤◌, List, [], ◌++◌, length, take, drop, sym, ap, ◌∙◌, ⊎_elim, subst, add-zero, arith}
+use Rattle.std.proofs.Common.{◌≡◌, ℕ, ◌+◌, ◌-◌, ◌<◌, ◌≤◌, List, [], ◌++◌, length, take, sym, ap, ◌∙◌, ⊎_elim, subst, add-zero, arith}
 use Rattle.std.proofs.Math.Seq.{take-append-add}
-use Rattle.std.proofs.lemmas.List.{append_assoc, append-nil, drop_at, drop-drop, length-append, length-drop, length-take, length-take-le, take-append-drop, take-append-le, take_all, take_at}
+use Rattle.std.proofs.lemmas.List.{append_assoc, append-nil, length-append, length-take, length-take-le, take-append-le, take_all}
 use Rattle.std.proofs.lemmas.Bool.{cases_lt}
-use Rattle.text_out.specs.Wrote.{laid, Puts, Wrote}
-
-pub length_laid : (at : ℕ) (s b : List ℕ) → at + length s ≤ length b → length (laid at s b) ≡ length b
-length_laid at s b room =
-    let front = length-take-le at b (omega arith) in
-    simp (length-append, length-drop) (omega arith)
-
-laid_none : (at : ℕ) (b : List ℕ) → laid at [] b ≡ b
-laid_none at b = rw add-zero (take-append-drop at b)
-
-laid_more :
-    (at n : ℕ) (s t b : List ℕ) → at ≤ length b → n ≡ at + length s →
-    laid n t (laid at s b) ≡ laid at (s ++ t) b
-laid_more at n s t b room n-is =
-    let p = take at b ++ s in
-    let q = drop (at + length s) b in
-    let own : laid at s b ≡ p ++ q = sym (append_assoc (take at b) s q) in
-    let long : length p ≡ n = omega (arith, length-append (take at b) s, length-take-le at b room) in
-    let front : take n (p ++ q) ≡ p = take_at p q n long in
-    let back : drop n (p ++ q) ≡ q = drop_at p q n long in
-    let past = drop-drop (length t) n (p ++ q) in
-    let rest = drop-drop (length t) (at + length s) b in
-    let sum : at + length (s ++ t) ≡ at + length s + length t = omega (arith, length-append s t) in
-    let after = drop (at + length s + length t) b in
-    let outer = append_assoc (take at b) s (t ++ after) in
-    let inner = append_assoc s t after in
-    cc
+use Rattle.bits.proofs.Splices.{length_splice, splice_next, splice_none}
+use Rattle.text_out.specs.Wrote.{Puts, Wrote}
 
 -- one text after another
 wrote_more :
     {at m n : ℕ} {s t b o v : List ℕ} → at ≤ length b → Wrote at s b o m → Wrote m t o v n → Wrote at (s ++ t) b v n
 wrote_more {at} {m} {n} {s} {t} {b} {o} {v} room one two =
-    let both = laid_more at m s t b room one.end_is in
+    let both = splice_next at m s t b room one.end_is in
     record {
       bytes = cc (one.bytes, two.bytes);
       end_is = omega (arith, one.end_is, two.end_is, length-append s t);
@@ -58,7 +33,7 @@ near : {at m n : ℕ} {s t b o v : List ℕ} → at ≤ length b → Puts at s b
 near {at} {m} {n} {s} {t} {b} {o} {v} room one two =
     let head = take (length b - at) s in
     let within : length head ≤ length b - at = take_within (length b - at) s in
-    let same : length o ≡ length b = ap length one.wrote.bytes ∙ length_laid at head b (omega arith) in
+    let same : length o ≡ length b = ap length one.wrote.bytes ∙ length_splice at head b (omega arith) in
     let left : length o - m ≡ length b - at - length head = omega (arith, one.wrote.end_is) in
     let tail : Wrote m (take (length b - at - length head) t) o v n = rw left at two.wrote in
     record { wrote = rw (take_join (length b - at) s t) (wrote_more room one.wrote tail) }
@@ -70,7 +45,7 @@ none_left n s e = ap (λ k. take k s) e
 far : {at m n : ℕ} {s t b o v : List ℕ} → length b < at → Puts at s b o m → Puts m t o v n → Puts at (s ++ t) b v n
 far {at} {m} {n} {s} {t} {b} {o} {v} past one two =
     let first : Wrote at [] b o m = rw (none_left (length b - at) s (omega arith)) at one.wrote in
-    let same : o ≡ b = first.bytes ∙ laid_none at b in
+    let same : o ≡ b = first.bytes ∙ splice_none at b in
     let place : m ≡ at = first.end_is ∙ add-zero at in
     let second : Wrote m [] o v n = rw (none_left (length o - m) t (omega (arith, ap length same))) at two.wrote in
     let third : Wrote at [] b v n = rw (same, place) at second in

@@ -1,14 +1,11 @@
 -- A text written into a buffer from a place on.
-use Rattle.std.specs.Prelude.{◌≡◌, ℕ, ◌+◌, ◌-◌, List, ◌++◌, length, take, drop}
+use Rattle.std.specs.Prelude.{◌≡◌, ℕ, ◌+◌, ◌-◌, List, length, take}
+use Rattle.bits.specs.Splices.{splice}
 use Rattle.text_out.specs.declared.TextOut.{TextOut}
 
--- a buffer with a text from place `at` on; its other bytes are as before
-abbrev pub laid : ℕ → List ℕ → List ℕ → List ℕ
-laid at text buffer = take at buffer ++ (text ++ drop (at + length text) buffer)
-
--- a text was written from place `at` on: what the buffer holds after, and the place after the text
+-- a text was written from place `at` on: what the buffer holds after, its other bytes as before, and the place after the text
 pub record Wrote (at : ℕ) (text before after : List ℕ) (end : ℕ) : Type 0 where
-  pub bytes : after ≡ laid at text before
+  pub bytes : after ≡ splice at text before
   pub end_is : end ≡ at + length text
 
 -- as much of a text as fits was written from place `at` on

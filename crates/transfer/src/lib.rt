@@ -84,7 +84,7 @@ pub fn put_packet<O: Outlet>(
 }
 
 /// Takes blocks of the client out of the inlet, as many as there are places for them, and reads the packet at their front.
-/// Answers its length and the blocks from its start to its end.
+/// Answers its length and the blocks from its start to its end. A refusal leaves the output as it was; the blocks are taken all the same.
 pub fn take_packet<I: Inlet>(
     inlet: &mut I,
     client: ClientNumber,

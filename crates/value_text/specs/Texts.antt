@@ -28,7 +28,7 @@ hex_of (b ∷ bs) = hex_byte b ++ flat_map spaced_byte bs
 
 -- the two sync bits in the order of sending
 abbrev pub sync_text : Sync → List ℕ
-sync_text s = map (λ b. 48 + b) (sync_bits s)
+sync_text s = map (λ b. if b then 49 else 48) (sync_bits s)
 
 -- a block: its sync bits and its bytes
 abbrev pub block_text : Block → List ℕ

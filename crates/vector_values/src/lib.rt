@@ -1,4 +1,4 @@
-//! Worked values of the standard as the library computes them, written as text.
+//! Worked values of the formats as the library computes them, written as text.
 //! Each is computed by the call that a user of the library makes, with bad input refused as that call refuses it.
 //! Texts are `String`s, since they are compared with the text expected.
 //! Main promise: each text is that of the value which the definition behind the call gives.

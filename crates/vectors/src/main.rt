@@ -1,4 +1,4 @@
-//! The program `vectors`: computes worked values of the standard with the library, and prints each beside the value expected.
+//! The program `vectors`: computes worked values of the formats with the library, and prints each beside the value expected.
 //! A line has the value's name, what is expected, what was computed, and `ok` or `differs`.
 //! Main promise: none of its own; `vector_values` computes, `value_text` compares and writes, and `main` prints.
 #![tactic(auto)]

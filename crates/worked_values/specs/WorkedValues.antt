@@ -27,10 +27,10 @@ DelayMessages =
 abbrev pub SevenBitRemainder : Type 0
 SevenBitRemainder = remainder 7 0xB7 (field (0x05 ∷ 0 ∷ 0 ∷ 0 ∷ 0 ∷ []) 0 39) ≡ 0b0101011
 
--- Overheads: client 1 in frame 0 is 00 00 08 00 00 00 C8, client 480 in frame 479 is 00 78 70 1F 00 00 E8, no client in frame 0 is seven
--- zeros, and the first with byte 3 made 01 is read as a wrong remainder.
--- Slots: slot 2 begins in data block 3, byte 7, bit 4, and slot 480 in data block 989, byte 6, bit 4.
--- Packets: 64 bytes make 11 blocks, with the end 87.
--- Messages: CS with payload type 11 is 4B DB 03 1E 0C 00 00 00; the one-way delay messages, and the 7-bit remainder, as above.
+-- Overheads: the bytes of three (client 1 in frame 0, client 480 in frame 479, no client in frame 0), and that the first is read as a wrong
+--   remainder once its byte 3 is 01.
+-- Slots: where the second and the last begin. Packets: the blocks of the shortest.
+-- Messages: CS with payload type 11 (binary), both of one-way delay; and the 7-bit remainder above.
+-- Each value stands in the definition named.
 abbrev pub WorkedValues : Type 0
 WorkedValues = WorkedOverheads × SlotStarts × SixtyFourBytes × PayloadTypeEleven × DelayMessages × SevenBitRemainder

@@ -15,7 +15,7 @@ loop-i-preserved c =
       length-set bs i b ∙ c.loop-i.invariant.0,
       below_more (λ j. get_or (set bs i b) j blank ≡ frame_block F (j + 1)) i
           (λ j h. get_or-set_other bs i j b blank (λ e. omega arith) ∙ c.loop-i.invariant.1 j h)
-          (get_or-set_same bs i b blank (omega arith) ∙ c.block_at.ensures ∙ ap (frame_block F) c.of_index.ensures),
+          (get_or-set_same bs i b blank (omega arith) ∙ c.block_at.ensures.made ∙ ap (frame_block F) c.of_index.ensures),
     )
 
 pub returns : goal.returns

@@ -1,11 +1,12 @@
-use Rattle.std.proofs.Common.{◌≡◌, ℕ, ◌+◌, ◌*◌, List, get_or, sym, ap, ◌∙◌, arith}
+use Rattle.std.proofs.Common.{◌≡◌, ℕ, ◌+◌, ◌*◌, List, get_or, sym, ap, ◌∙◌, subst, arith}
 use Rattle.std.specs.List.{flat_map}
-use Rattle.std.proofs.lemmas.List.{take_all}
+use Rattle.std.proofs.lemmas.List.{get_or_default, take_all}
 use Rattle.block.specs.declared.Pair.{Pair}
-use Rattle.payload.specs.Bits.{bits, splice}
+use Rattle.bits.specs.Bits.{bits}
+use Rattle.bits.specs.Splices.{splice}
 use Rattle.block.specs.Whole.{WholePair}
 use Rattle.payload.specs.Pairs.{pair_bits}
-use Rattle.payload.proofs.Laws.{length_bits}
+use Rattle.bits.proofs.Places.{length_bits}
 use Rattle.payload.proofs.Slots.{below_two, blank, packed_two, pairs_packed, payload_is}
 use Rattle.payload.proofs.pack.Goals as goal
 
@@ -38,5 +39,6 @@ returns c =
     record {
       made = payload_is p ps h c.hold_bytes.ensures sent;
       sent = sent;
+      whole = λ j d l. subst WholePair (get_or_default ps j blank d l) (c.loop-two.invariant.2 j (omega arith));
       undone = pairs_packed p ps blank c.told-pairs (λ j l. c.loop-two.invariant.2 j (omega arith)) sent;
     }

@@ -1,6 +1,6 @@
 use Rattle.std.proofs.Common.{◌≡◌, ℕ, ◌*◌, ◌<◌, length, get_or, take}
 use Rattle.std.specs.List.{flat_map}
-use Rattle.payload.specs.Bits.{bits}
+use Rattle.bits.specs.Bits.{bits}
 use Rattle.block.specs.Whole.{WholePair}
 use Rattle.payload.specs.Pairs.{pair_bits}
 use Rattle.payload.proofs.Slots.{blank}

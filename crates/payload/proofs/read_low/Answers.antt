@@ -1,6 +1,6 @@
 use Rattle.std.proofs.Common.{arith}
-use Rattle.payload.specs.Bits.{bits}
-use Rattle.payload.proofs.Laws.{half_low}
+use Rattle.bits.specs.Bits.{bits}
+use Rattle.payload.proofs.Halves.{half_low}
 use Rattle.payload.proofs.Reading.{low_pair}
 use Rattle.payload.proofs.read_low.Goals as goal
 

@@ -31,4 +31,5 @@ returns c =
       bytes = bytes_written f w (get_or bs 0 0) (get_or bs 1 0) (get_or bs 2 0) (get_or bs 3 0) t x c.reverse_bits-2.type_inv e;
       back = reads_back f all (omega (arith, c.entry-client.ensures.value, high)) c.number.ensures.range e;
       seen = changes_seen f all refl e;
+      range = (c.entry-client.ensures.range, c.number.ensures.range);
     }

@@ -1,3 +1,0 @@
-pub mod Content
-pub mod Sizes
-pub mod Next

@@ -1,0 +1,4 @@
+pub mod Lists
+pub mod Padded
+pub mod Moves
+pub mod Chains

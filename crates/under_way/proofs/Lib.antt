@@ -1,0 +1,3 @@
+pub mod Leavings
+pub mod Comings
+pub mod Wholes

@@ -1,0 +1,4 @@
+pub mod Departure
+pub mod Leaving
+pub mod Lending
+pub mod Coming

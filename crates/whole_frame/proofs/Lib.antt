@@ -1,0 +1,4 @@
+pub mod Payloads
+pub mod Shape
+pub mod Back
+pub mod Only
