@@ -5,12 +5,9 @@ use Rattle.std.specs.Str.{bytes_eq}
 use Rattle.std.proofs.lemmas.List.{drop_more, take_more, append_assoc, drop_all, get_or_default, flat_map_more}
 use Rattle.std.proofs.lemmas.Bool.Decides.{nat_tests}
 use Rattle.block.specs.declared.Block.{Block}
-use Rattle.block.specs.declared.Sync.{Sync}
-use Rattle.block.specs.declared.Sync.TheVariants.{Zeros, Control, Data as DataSync, Ones}
-use Rattle.block.specs.declared.Class.{Class}
-use Rattle.block.specs.declared.Class.TheVariants.{Data, Idle, Characters, OrderedSet, Start, End, Unlawful}
-use Rattle.block.specs.Classes.{class_of, control_class, end_class}
-use Rattle.block.specs.Fixed.{idle_bytes}
+use Rattle.block.specs.declared.Class.TheVariants.{Data, End}
+use Rattle.block.specs.Classes.{class_of}
+use Rattle.block.proofs.Classes.{classes_told}
 use Rattle.packet.specs.Format.{opening, in_range}
 use Rattle.packet.specs.Reading.{Found, prefixed, carried, sized}
 use Rattle.std.specs.Bool.{then_some}
@@ -19,41 +16,8 @@ use Rattle.packet.specs.declared.Extent.{Extent}
 use Rattle.packet.specs.Spans.{bytes_in, spanned, Spans}
 
 -- an end carries at most seven bytes
-data Few : Class → Type 0 where
-  end : {n : ℕ} → n < 8 → Few (End n)
-  data_few : Few Data
-  idle_few : Few Idle
-  characters_few : Few Characters
-  set_few : Few OrderedSet
-  start_few : Few Start
-  unlawful_few : Few Unlawful
-
-few_cond : (t : Bool) {a b : Class} → Few a → Few b → Few (cond t a b)
-few_cond true f g = f
-few_cond false f g = g
-
-few_end : (t : ℕ) → Few (end_class t)
-few_end t =
-    few_cond (eqb t 0x87) (end (omega arith)) (few_cond (eqb t 0x99) (end (omega arith)) (few_cond (eqb t 0xAA) (end (omega arith))
-    (few_cond (eqb t 0xB4) (end (omega arith)) (few_cond (eqb t 0xCC) (end (omega arith)) (few_cond (eqb t 0xD2) (end (omega arith))
-    (few_cond (eqb t 0xE1) (end (omega arith)) (few_cond (eqb t 0xFF) (end (omega arith)) unlawful_few)))))))
-
-few_control : (bytes : List ℕ) → Few (control_class bytes)
-few_control bytes =
-    few_cond (eqb (get_or bytes 0 0) 0x1E) (few_cond (bytes_eq bytes idle_bytes) idle_few characters_few)
-    (few_cond (eqb (get_or bytes 0 0) 0x4B) set_few (few_cond (eqb (get_or bytes 0 0) 0x78) start_few (few_end (get_or bytes 0 0))))
-
-few_class : (s : Sync) (bytes : List ℕ) → Few (class_of (record { sync = s; bytes = bytes }))
-few_class Zeros bytes = unlawful_few
-few_class Control bytes = few_control bytes
-few_class DataSync bytes = data_few
-few_class Ones bytes = unlawful_few
-
 pub end_few : (b : Block) (n : ℕ) → End n ≡ class_of b → n < 8
-end_few b n e = few (rw (sym e) at (few_class b.sync b.bytes))
-  where
-    few : Few (End n) → n < 8
-    few (end l) = l
+end_few b n e = ((classes_told b (End n)).0 (sym e)).1
 
 -- n blocks with these bytes in front
 abbrev pub shifted : List ℕ → ℕ → Found → Found

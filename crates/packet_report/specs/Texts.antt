@@ -1,5 +1,5 @@
 -- What is printed of a line: a packet that was carried, or a refusal.
-use Rattle.std.specs.Prelude.{ℕ, ◌+◌, ◌*◌, cond, List, ◌++◌, length, Ok, Err, codes, decimal, Result, nat_le}
+use Rattle.std.specs.Prelude.{ℕ, ◌+◌, ◌*◌, if◌then◌else◌, List, ◌++◌, length, Ok, Err, codes, decimal, Result, nat_le}
 use Rattle.refusal.specs.declared.Refusal.{Refusal}
 use Rattle.refusal.specs.declared.Refusal.TheVariants.{OutputTooShort}
 use Rattle.refusal.specs.Numbers.{number_of}
@@ -25,4 +25,4 @@ room_for bytes = 128 + 2 * bytes
 
 -- a printer's answer: the length of its text, if there are places for it
 abbrev pub print_answer : List ℕ → ℕ → ℕ → Result ℕ Refusal
-print_answer text bytes places = cond (nat_le (room_for bytes) places) (Ok (length text)) (Err OutputTooShort)
+print_answer text bytes places = if nat_le (room_for bytes) places then Ok (length text) else Err OutputTooShort

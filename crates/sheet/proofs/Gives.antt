@@ -1,10 +1,9 @@
 -- Slots given to a client one by one.
-use Rattle.std.proofs.Common.{◌≡◌, ℕ, ◌+◌, ◌-◌, ◌<◌, ◌≤◌, Bool, true, false, cond, eqb, List, [], ◌∷◌, ◌++◌, length, get_or, take, drop, set, replicate, is_some, Some, None, Ok, Option, sym, refl, ap, ◌∙◌, add-zero, add_assoc, arith}
+use Rattle.std.proofs.Common.{◌≡◌, ℕ, ◌+◌, ◌-◌, ◌<◌, Bool, true, false, cond, eqb, List, [], ◌∷◌, ◌++◌, length, get_or, take, drop, set, replicate, is_some, Some, None, Option, sym, refl, ap, ◌∙◌, add-zero, add_assoc, arith}
 use Rattle.std.proofs.lemmas.List.{append_assoc, take_more, drop_more, length-append, length-replicate, length-take-le, set_at, get_or_at, replicate_more, get_or-drop, length-drop, take-append-drop}
 use Rattle.numbers.specs.Entries.{entry_of, is_entry}
 use Rattle.std.proofs.lemmas.Bool.{cond-false, ne_eqb}
 use Rattle.std.proofs.lemmas.Bool.Decides.{nat_tests}
-use Rattle.numbers.specs.Range.{checked}
 use Rattle.sheet.specs.Verdict.{gave, filled}
 
 or_push : (b p q : Bool) (e : ℕ) → p ≡ cond q true (cond (eqb e 0) false true) → cond b p true ≡ cond (cond b q true) true (cond (eqb e 0) false true)
@@ -51,39 +50,13 @@ pub some_entry : (o : Option ℕ) → is_entry o ≡ true → is_some o ≡ cond
 some_entry None h = refl
 some_entry (Some c) h = sym (cond-false (eqb c 0) false true (ne_eqb c 0 (λ e. grind (arith, nat_tests))))
 
--- slot k of the group that begins at slot f, with the slots before it given already
-module _ (c f k : ℕ) (es now : List ℕ) (one : 1 ≤ f) (from : f ≤ k) (top : k ≤ 480) (full : length es ≡ 480) (is : now ≡ gave c (f - 1) (k - f) es) where
-  place : (f - 1) + (k - f) ≡ k - 1
-  place = omega arith
+-- the slot behind the first a and the n that are given already
+module _ (c a n slot : ℕ) (es now : List ℕ) (place : slot - 1 ≡ a + n) (within : a + n < length es) (is : now ≡ gave c a n es) where
+  pub slot_given : set now (slot - 1) c ≡ gave c a (n + 1) es
+  slot_given = rw (place, is) (gave_more c a n es within)
 
-  within : (f - 1) + (k - f) < length es
-  within = omega arith
-
-  more : k - f + 1 ≡ k + 1 - f
-  more = omega arith
-
-  pub slot_given : set now (k - 1) c ≡ gave c (f - 1) (k + 1 - f) es
-  slot_given =
-      ap (λ t. set t (k - 1) c) is
-      ∙ ap (λ i. set (gave c (f - 1) (k - f) es) i c) (sym place)
-      ∙ gave_more c (f - 1) (k - f) es within
-      ∙ ap (λ n. gave c (f - 1) n es) more
-
-  pub slot_read : get_or now (k - 1) 0 ≡ get_or es (k - 1) 0
-  slot_read = ap (λ t. get_or t (k - 1) 0) is ∙ ap (λ i. get_or (gave c (f - 1) (k - f) es) i 0) (sym place) ∙ at_next c (f - 1) (k - f) es within ∙ ap (λ i. get_or es i 0) place
-
-  pub slot_used : filled (take (k + 1 - f) (drop (f - 1) es)) ≡ cond (filled (take (k - f) (drop (f - 1) es))) true (cond (eqb (get_or es (k - 1) 0) 0) false true)
-  slot_used =
-      ap (λ n. filled (take n (drop (f - 1) es))) (sym more)
-      ∙ filled_more c (f - 1) (k - f) es within
-      ∙ ap (λ i. cond (filled (take (k - f) (drop (f - 1) es))) true (cond (eqb (get_or es i 0) 0) false true)) place
-
--- a number in range makes a slot number, and that number
-pub checked_ok : (n m : ℕ) → Ok m ≡ checked n → m ≡ n
-checked_ok n m e = grind (arith, nat_tests)
-
-pub checked_in : (n : ℕ) → 1 ≤ n → n ≤ 480 → checked n ≡ Ok n
-checked_in n a b = grind (arith, nat_tests)
+  pub slot_read : get_or now (slot - 1) 0 ≡ get_or es (a + n) 0
+  slot_read = rw (place, is) (at_next c a n es within)
 
 pub gave_none : (c a : ℕ) (es : List ℕ) → es ≡ gave c a 0 es
 gave_none c a es = sym (take-append-drop a es) ∙ ap (λ i. take a es ++ drop i es) (sym (add-zero a))

@@ -14,7 +14,7 @@ use Rattle.form.specs.declared.Mark.{Mark}
 use Rattle.form.proofs.Texts.{form_is, form_reads}
 use Rattle.form.proofs.Plain.{lines_rejoined, plain_lease, plain_line, plain_marked, rejoined}
 use Rattle.sheet.specs.Verdict.{chain, judged, leased, line_form, line_verdict, longest, refused, verdict}
-use Rattle.sheet.specs.Laws.{Apart, Breaks, EachLawful, Gives, InRange, Lawful, Leases, Refused, Rule, WritesOut, Stands, cause_of, client, form, groups_of, level_of, marks, order, range, sheet_text, slots, written, written_all}
+use Rattle.sheet.specs.Laws.{Apart, Breaks, EachLawful, Gives, InRange, Lawful, Leases, Refused, Rule, WritesOut, Stands, cause_of, client, form, groups_of, level_of, marks, order, range, sheet_text, slot, written, written_all}
 use Rattle.sheet.proofs.Leased.{apart_parts, each_last, groups_append, each_prefix}
 use Rattle.sheet.proofs.Steps.{not_long}
 use Rattle.sheet.proofs.Weighing.{State, Fault, err_ok, ok_err, ok_same, err_same, far, again, clash, lease_fails, lease_ok, lease_reads, writable}
@@ -96,7 +96,7 @@ module _ (ls : List Lease) (es : List ℕ) (state : State ls es) (n : ℕ) (l : 
     before_form form h b = omega arith
     before_form range h b = omega arith
     before_form client h b = omega arith
-    before_form slots h b = omega arith
+    before_form slot h b = omega arith
 
     module _ (m : Lease) (w : Writable m) (is : l ≡ written m) where
       same_lease : (p : Lease) → Writable p → l ≡ written p → p ≡ m
@@ -107,7 +107,7 @@ module _ (ls : List Lease) (es : List ℕ) (state : State ls es) (n : ℕ) (l : 
       before_range form h b = b m w is
       before_range range h b = omega arith
       before_range client h b = omega arith
-      before_range slots h b = omega arith
+      before_range slot h b = omega arith
 
       no_range : InRange m → Breaks ls l range → ⊥
       no_range i b = b.3 (subst InRange (sym (same_lease b.0 b.1 b.2)) i)
@@ -117,19 +117,19 @@ module _ (ls : List Lease) (es : List ℕ) (state : State ls es) (n : ℕ) (l : 
       before_client i form h b = b m w is
       before_client i range h b = no_range i b
       before_client i client h b = omega arith
-      before_client i slots h b = omega arith
+      before_client i slot h b = omega arith
 
       before_slots : InRange m → (Leases m.client ls → ⊥) → (r : Rule) → order r < 4 → Breaks ls l r → ⊥
       before_slots i k marks h b = no_marks b
       before_slots i k form h b = b m w is
       before_slots i k range h b = no_range i b
       before_slots i k client h b = k (subst (λ p. Leases p.client ls) (same_lease b.0 b.1 b.2) b.3)
-      before_slots i k slots h b = omega arith
+      before_slots i k slot h b = omega arith
 
       fault_first : (e : SheetRefusal) → Fault ls es state m n e → (rule : Rule) × (e ≡ refused (cause_of rule) (level_of rule) n) × First ls l rule
       fault_first e (far f q) = (range, q, ((m, w, is, f), before_range))
       fault_first e (again i f q) = (client, q, ((m, w, is, f), before_client i))
-      fault_first e (clash i k f q) = (slots, q, ((m, w, is, f), before_slots i k))
+      fault_first e (clash i k f q) = (slot, q, ((m, w, is, f), before_slots i k))
 
   pub line_fault : (e : SheetRefusal) → line_verdict n es l ≡ Err e → (rule : Rule) × (e ≡ refused (cause_of rule) (level_of rule) n) × First ls l rule
   line_fault e h =

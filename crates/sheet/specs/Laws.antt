@@ -5,6 +5,7 @@ use Rattle.refusal.specs.declared.Refusal.TheVariants.{MarkNotAllowed, FormBroke
 use Rattle.refusal.specs.declared.Level.{Level}
 use Rattle.refusal.specs.declared.Level.TheVariants.{Marks, Forms, Calendar}
 use Rattle.refusal.specs.declared.SheetRefusal.{SheetRefusal}
+use Rattle.numbers.specs.Range.{slots}
 use Rattle.form.specs.Lease.{Group, Lease, lease_text, SomeGroup, Writable}
 use Rattle.form.specs.Marks.{LineOf, lines, mark_of}
 use Rattle.sheet.specs.Verdict.{longest, refused}
@@ -26,10 +27,10 @@ Apart (g ∷ gs) = ((k : ℕ) → Holds g k → HeldBy gs k → ⊥) × Apart gs
 -- the groups are of slots 1 to 480, and none falls
 abbrev pub GroupsInRange : List Group → Type 0
 GroupsInRange [] = Unit {0}
-GroupsInRange (g ∷ gs) = (1 ≤ g.first) × (g.first ≤ g.last) × (g.last ≤ 480) × GroupsInRange gs
+GroupsInRange (g ∷ gs) = (1 ≤ g.first) × (g.first ≤ g.last) × (g.last ≤ slots) × GroupsInRange gs
 
 abbrev pub InRange : Lease → Type 0
-InRange l = (1 ≤ l.client) × (l.client ≤ 480) × GroupsInRange l.groups
+InRange l = (1 ≤ l.client) × (l.client ≤ slots) × GroupsInRange l.groups
 
 -- the groups of all leases, and whether a client has a lease
 abbrev pub groups_of : List Lease → List Group
@@ -68,7 +69,7 @@ Belongs (l ∷ ls) k c = (HeldBy l.groups k × (l.client ≡ c)) ⊎ ((HeldBy l.
 
 -- the entries of the calendar that the leases give
 abbrev pub Gives : List Lease → List ℕ → Type 0
-Gives ls es = (length es ≡ 480) × ((k : ℕ) → 1 ≤ k → k ≤ 480 → Belongs ls k (slice_index es (k - 1)))
+Gives ls es = (length es ≡ slots) × ((k : ℕ) → 1 ≤ k → k ≤ slots → Belongs ls k (slice_index es (k - 1)))
 
 -- a sheet writes out lawful leases, which give the entries
 abbrev pub WritesOut : List ℕ → List ℕ → Type 0
@@ -80,28 +81,28 @@ pub data Rule : Type 0 where
   form : Rule
   range : Rule
   client : Rule
-  slots : Rule
+  slot : Rule
 
 abbrev pub order : Rule → ℕ
 order marks = 0
 order form = 1
 order range = 2
 order client = 3
-order slots = 4
+order slot = 4
 
 abbrev pub cause_of : Rule → Refusal
 cause_of marks = MarkNotAllowed
 cause_of form = FormBroken
 cause_of range = OutOfRange
 cause_of client = ClientTwice
-cause_of slots = SlotTwice
+cause_of slot = SlotTwice
 
 abbrev pub level_of : Rule → Level
 level_of marks = Marks
 level_of form = Forms
 level_of range = Calendar
 level_of client = Calendar
-level_of slots = Calendar
+level_of slot = Calendar
 
 -- a byte stands in the text
 abbrev pub Stands : ℕ → List ℕ → Type 0
@@ -116,7 +117,7 @@ Breaks ls l marks = (c : ℕ) × Stands c l.text × (mark_of c ≡ None)
 Breaks ls l form = (m : Lease) → Writable m → l ≢ written m
 Breaks ls l range = (m : Lease) × Writable m × (l ≡ written m) × (InRange m → ⊥)
 Breaks ls l client = (m : Lease) × Writable m × (l ≡ written m) × Leases m.client ls
-Breaks ls l slots = (m : Lease) × Writable m × (l ≡ written m) × (Apart (groups_of (ls ++ (m ∷ []))) → ⊥)
+Breaks ls l slot = (m : Lease) × Writable m × (l ≡ written m) × (Apart (groups_of (ls ++ (m ∷ []))) → ⊥)
 
 -- the refused line is the first that breaks a rule, and its cause the first rule that it breaks
 pub record FirstFault (sheet : List ℕ) (e : SheetRefusal) : Type 0 where

@@ -5,7 +5,7 @@ use Rattle.refusal.specs.declared.Refusal.TheVariants.{MarkNotAllowed, FormBroke
 use Rattle.refusal.specs.declared.Level.{Level}
 use Rattle.refusal.specs.declared.Level.TheVariants.{Marks, Forms, Calendar}
 use Rattle.refusal.specs.declared.SheetRefusal.{SheetRefusal}
-use Rattle.numbers.specs.Range.{in_range}
+use Rattle.numbers.specs.Range.{in_range, slots}
 use Rattle.calendar.specs.Share.{slot_count}
 use Rattle.form.specs.Lease.{Group, Lease}
 use Rattle.form.specs.Marks.{LineOf, marked, lines}
@@ -107,4 +107,4 @@ longest = 16384
 
 -- the whole sheet
 abbrev pub verdict : List ℕ → Result (List ℕ) SheetRefusal
-verdict sheet = if nat_lt longest (length sheet) then Err (refused FormBroken Forms 1) else judged 1 (replicate 480 0) (lines sheet)
+verdict sheet = if nat_lt longest (length sheet) then Err (refused FormBroken Forms 1) else judged 1 (replicate slots 0) (lines sheet)

@@ -27,15 +27,11 @@ fn give(draft: &mut Calendar, client: ClientNumber, first: SlotNumber, last: Slo
     ensures again { result ≡ used (record { first = first; last = last }) (entries_of draft.old) }
 {
     let mut again = false;
-    // by number: a chain by `filter_map`, as in `listing`, would leave out what is no slot just as the `if let` does, and its invariant
-    // would speak of what the chain has yielded, where this one counts
-    for number in first.number()..last.number() + 1 {
-        if let Ok(slot) = SlotNumber::try_from(number) {
-            if draft.client(slot).is_some() {
-                again = true;
-            }
-            draft.assign(slot, client);
+    for slot in first.to(last) {
+        if draft.client(slot).is_some() {
+            again = true;
         }
+        draft.assign(slot, client);
     }
     again
 }
@@ -164,11 +160,7 @@ fn read_lines(sheet: &[u8], calendar: &mut Calendar) -> Result<(), SheetRefusal>
     let mut number = 1;
     // not by `split_inclusive`: `first_line` cuts the line off itself and answers what follows, so that each newline is looked for once
     while !rest.is_empty() {
-        // not by `map_err`, since what its closure answers was left open in the proof
-        match read_line(&mut draft, rest) {
-            Ok(behind) => rest = behind,
-            Err(fault) => return Err(fault.at(number)),
-        }
+        rest = read_line(&mut draft, rest).map_err(|fault| fault.at(number))?;
         number += 1;
     }
     *calendar = draft;

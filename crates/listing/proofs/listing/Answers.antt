@@ -1,8 +1,8 @@
 use Rattle.std.proofs.Common.{◌≡◌, [], sym, ◌∙◌, arith, rules}
-use Rattle.std.proofs.lemmas.List.{flat_map_more, map-id}
-use Rattle.std.proofs.lemmas.Iterator.Consumers.{YieldsList-at, YieldsList-end, YieldsList-from_first}
+use Rattle.std.proofs.lemmas.List.{flat_map_more}
 use Rattle.numbers.specs.Range.{slots}
 use Rattle.numbers.specs.Walk.{numbers_between}
+use Rattle.numbers.proofs.Walks.{walk_end}
 use Rattle.calendar.proofs.Facts.{entries_length}
 use Rattle.calendar.specs.Entries.{entries_of}
 use Rattle.listing.specs.Lines.{client_line, listing_of}
@@ -22,10 +22,8 @@ loop-client-preserved c =
 pub returns-clause-wrote : goal.returns-clause-wrote
 returns-clause-wrote c =
     let es = entries_of c.args.calendar.now in
-    let seen = YieldsList-end
-    (YieldsList-at c.into_iter-client-iterator.ensures.into_iter_gives (YieldsList-from_first (λ x. x) (λ xs. xs) (numbers_between 1 slots) c.all-client-items.ensures))
-    c.loop-client.yielded _ c.loop-client.yielded_by _ _ c.in-None.is c.next.ensures.steps in
-    let all : c.loop-client.yielded ≡ numbers_between 1 slots = sym (map-id c.loop-client.yielded) ∙ seen.0 in
+    let all : c.loop-client.yielded ≡ numbers_between 1 slots =
+    walk_end 1 slots (c.into_iter-client-iterator.ensures.into_iter_gives ∙ c.all-client-items.ensures) c.loop-client.yielded _ c.loop-client.yielded_by _ _ c.in-None.is c.next.ensures.steps in
     let puts : Puts 0 (listing_of es) c.args.out.now c.loop-client.text.places.now c.loop-client.text.len =
     rw (all, c.new-text.ensures.places, c.new-text.ensures.empty) at c.loop-client.invariant.so_far in
     let short = short_listing es (entries_length c.args.calendar.now) in

@@ -1,11 +1,11 @@
-use Rattle.std.proofs.Common.{◌≡◌, ◌-◌, ◌≤◌, take, drop}
+use Rattle.std.proofs.Common.{◌≡◌, ◌-◌, length, take, drop}
 use Rattle.calendar.specs.Entries.{entries_of}
 use Rattle.sheet.specs.Verdict.{gave, filled}
 use Rattle.sheet.proofs.give.Given as goal
 
-abbrev pub invariant-loop-number : goal.invariant-loop-number
-invariant-loop-number l =
-    (l.initial.number ≤ l.number)
-    × (l.number - l.initial.number ≤ l.number-end - l.initial.number)
-    × (entries_of l.draft ≡ gave l.client (l.initial.number - 1) (l.number - l.initial.number) (entries_of l.initial.draft))
-    × (l.again ≡ filled (take (l.number - l.initial.number) (drop (l.initial.number - 1) (entries_of l.initial.draft))))
+-- the slots so far are given
+abbrev pub invariant-loop-slot : goal.invariant-loop-slot
+invariant-loop-slot l = record {
+  entries : entries_of l.draft ≡ gave l.client (l.fn.first - 1) (length l.yielded) (entries_of l.initial.draft);
+  again : l.again ≡ filled (take (length l.yielded) (drop (l.fn.first - 1) (entries_of l.initial.draft)));
+}
