@@ -11,7 +11,7 @@ use Rattle.packet_text.specs.Hex.{hex_bytes, hex_text, is_hex}
 
 -- the two bits as digits
 abbrev pub sync_digits : Sync → List ℕ
-sync_digits s = map (λ bit. 48 + bit) (sync_bits s)
+sync_digits s = map (λ bit. if bit then 49 else 48) (sync_bits s)
 
 -- the line of a block, written out
 abbrev pub block_line : Block → List ℕ

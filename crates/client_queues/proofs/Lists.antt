@@ -12,13 +12,14 @@ use Rattle.std.proofs.lemmas.List.Sums.{sum_by-cons, sum_by-drop_more}
 use Rattle.block.specs.declared.Block.{Block}
 use Rattle.block.specs.Fixed.{idle_block}
 use Rattle.numbers.specs.Range.{slots}
-use Rattle.port.specs.Model.{Lists, first_of, rest_of, taken, updated}
+use Rattle.port.proofs.Lists.{updated_same}
+use Rattle.port.specs.Model.{Lists, first_of, rest_of, lists_after_next, updated_lists}
 use Rattle.client_queues.specs.Waiting.{blocks_waiting, none_wait, waiting_in}
 use Rattle.client_queues.specs.declared.ClientQueues.{ClientQueues}
 
 -- one queue has another list: that of its client
 module _ (ls : List (List Block)) (i c : ℕ) (l : List Block) (at : i + 1 ≡ c) (within : i < length ls) where
-  pub one_set : (λ k. get_or ([] ∷ set ls i l) k []) ≡ updated (λ k. get_or ([] ∷ ls) k []) c l
+  pub one_set : (λ k. get_or ([] ∷ set ls i l) k []) ≡ updated_lists (λ k. get_or ([] ∷ ls) k []) c l
   one_set = fun_ext (λ k. go k (eqb k c) refl)
     where
       go : (k : ℕ) (t : Bool) → eqb k c ≡ t → get_or ([] ∷ set ls i l) k [] ≡ cond t l (get_or ([] ∷ ls) k [])
@@ -26,14 +27,6 @@ module _ (ls : List (List Block)) (i c : ℕ) (l : List Block) (at : i + 1 ≡ c
       go zero false e = refl
       go (suc j) true e = let z = eqb-true (suc j) c e in get_or-set_at ls i j l [] (omega arith) within
       go (suc j) false e = get_or-set_other ls i j l [] (λ s. eqb-false (suc j) c e (omega (arith, s)))
-
--- a list in place of itself
-updated_same : (lists : Lists) (c : ℕ) → updated lists c (lists c) ≡ lists
-updated_same lists c = fun_ext (λ k. go k (eqb k c) refl)
-  where
-    go : (k : ℕ) (t : Bool) → eqb k c ≡ t → cond t (lists c) (lists k) ≡ lists k
-    go k true e = ap lists (sym (eqb-true k c e))
-    go k false e = refl
 
 -- no queue has a list
 abbrev no_list : List Block
@@ -99,23 +92,23 @@ module _ (q : ClientQueues) where
 
     -- and a queue in its place
     module _ (new : VecDeque Block Global) (after : List (VecDeque Block Global)) (there : after ≡ set q.queues.items i new) where
-      list_set : (l : List Block) → new.items ≡ l → (λ k. get_or ([] ∷ map deque_items after) k []) ≡ updated (waiting_in q) c l
+      list_set : (l : List Block) → new.items ≡ l → (λ k. get_or ([] ∷ map deque_items after) k []) ≡ updated_lists (waiting_in q) c l
       list_set l e =
           ap (λ ls k. get_or ([] ∷ ls) k [])
           (ap (map deque_items) there ∙ map-set deque_items q.queues.items i new ∙ ap (set (map deque_items q.queues.items) i) e)
           ∙ one_set (map deque_items q.queues.items) i c l at (omega (arith, inside, length-map q.queues.items (deque_items {X = Block} {Z = Global})))
 
-      pub given_rest : (b : Block) → old.items ≡ b ∷ new.items → (λ k. get_or ([] ∷ map deque_items after) k []) ≡ taken c (waiting_in q)
+      pub given_rest : (b : Block) → old.items ≡ b ∷ new.items → (λ k. get_or ([] ∷ map deque_items after) k []) ≡ lists_after_next c (waiting_in q)
       given_rest b e = list_set (rest_of (waiting_in q c)) (rw (list_at, e) refl)
 
-      pub none_rest : deque_len old ≡ 0 → deque_len new ≡ 0 → (λ k. get_or ([] ∷ map deque_items after) k []) ≡ taken c (waiting_in q)
+      pub none_rest : deque_len old ≡ 0 → deque_len new ≡ 0 → (λ k. get_or ([] ∷ map deque_items after) k []) ≡ lists_after_next c (waiting_in q)
       none_rest n m =
           list_set (rest_of (waiting_in q c)) (rw (list_at, nil_from_length old.items (sym old.ok.0 ∙ n)) (nil_from_length new.items (sym new.ok.0 ∙ m)))
 
       pub same_wait : new.items ≡ old.items → (λ k. get_or ([] ∷ map deque_items after) k []) ≡ waiting_in q
-      same_wait e = list_set old.items e ∙ ap (updated (waiting_in q) c) (sym list_at) ∙ updated_same (waiting_in q) c
+      same_wait e = list_set old.items e ∙ ap (updated_lists (waiting_in q) c) (sym list_at) ∙ updated_same (waiting_in q) c
 
-      pub more_wait : (l : List Block) → new.items ≡ old.items ++ l → (λ k. get_or ([] ∷ map deque_items after) k []) ≡ updated (waiting_in q) c (waiting_in q c ++ l)
+      pub more_wait : (l : List Block) → new.items ≡ old.items ++ l → (λ k. get_or ([] ∷ map deque_items after) k []) ≡ updated_lists (waiting_in q) c (waiting_in q c ++ l)
       more_wait l e = list_set (waiting_in q c ++ l) (e ∙ ap (λ w. w ++ l) (sym list_at))
 
 -- nothing stands at a place behind the last

@@ -3,7 +3,7 @@ use Rattle.std.specs.Prelude.{ℕ, List, [], ◌∷◌, ◌++◌, map, length, s
 use Rattle.std.specs.VecDeque.{deque_items}
 use Rattle.std.specs.List.{range_with_len}
 use Rattle.numbers.specs.Range.{slots}
-use Rattle.port.specs.Model.{Lists, updated}
+use Rattle.port.specs.Model.{Lists, updated_lists}
 use Rattle.packet.specs.Format.{blocks_of}
 use Rattle.client_queues.specs.declared.ClientQueues.{ClientQueues}
 
@@ -17,7 +17,7 @@ none_wait k = []
 
 -- the blocks of a packet behind those that wait for client c
 abbrev pub with_packet : ℕ → List ℕ → Lists → Lists
-with_packet c packet lists = updated lists c (lists c ++ blocks_of packet)
+with_packet c packet lists = updated_lists lists c (lists c ++ blocks_of packet)
 
 -- how many blocks wait for clients 1 to 480 together
 unfoldable pub blocks_waiting : Lists → ℕ

@@ -1,7 +1,7 @@
 //! The calls of the queues, apart from the struct, whose ghost fields may not see the definitions that name it.
 
 ghost use Rattle.std.specs.Prelude.{◌≡◌, ◌==◌, ◌↔◌, false, length, IfOk, OnErr, OnOk, Err};
-ghost use Rattle.port.specs.Model.{first_of, taken};
+ghost use Rattle.port.specs.Model.{first_of, lists_after_next};
 ghost use Rattle.packet.specs.Format.{blocks_of, in_range};
 ghost use Rattle.client_queues.specs.Waiting.{blocks_waiting, none_wait, waiting_in, with_packet};
 ghost use Rattle.client_queues.specs.declared.calls.AddError.TheVariants.{PacketLength};

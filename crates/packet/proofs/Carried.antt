@@ -5,7 +5,8 @@ use Rattle.std.specs.Str.{bytes_eq}
 use Rattle.std.proofs.lemmas.List.{drop_more, take_more, append_assoc, drop_all, get_or_default, flat_map_more}
 use Rattle.std.proofs.lemmas.Bool.Decides.{nat_tests}
 use Rattle.block.specs.declared.Block.{Block}
-use Rattle.block.specs.declared.Class.TheVariants.{Data, End}
+use Rattle.block.specs.declared.Class.{Class}
+use Rattle.block.specs.declared.Class.TheVariants.{Data, Idle, Characters, OrderedSet, Start, End, Unlawful}
 use Rattle.block.specs.Classes.{class_of}
 use Rattle.block.proofs.Classes.{classes_told}
 use Rattle.packet.specs.Format.{opening, in_range}

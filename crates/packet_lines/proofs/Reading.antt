@@ -9,7 +9,7 @@ use Rattle.std.proofs.lemmas.Option.{none-some, same_Some}
 use Rattle.block.specs.declared.Block.{Block}
 use Rattle.refusal.specs.declared.Refusal.{Refusal}
 use Rattle.refusal.specs.declared.Refusal.TheVariants.{FormBroken, OutputTooShort}
-use Rattle.port.specs.Model.{Lists, updated}
+use Rattle.port.specs.Model.{Lists, updated_lists}
 use Rattle.packet.specs.Format.{blocks_of}
 use Rattle.packet_text.specs.declared.PacketLine.{PacketLine}
 use Rattle.packet_text.specs.Hex.{hex_text}
@@ -51,7 +51,7 @@ refused_by_form entries line n cause l e = go (line_form line) refl
         let z : ◌≡◌ {A = ℕ} 0 1 = cc in absurd (omega arith)
 
 -- a packet put behind those of its client is what its line brings
-pub added : (lists : Lists) (c : ℕ) (packet : List ℕ) → updated lists c (lists c ++ blocks_of packet) ≡ joined lists (brought_by (Ok (c, packet)))
+pub added : (lists : Lists) (c : ℕ) (packet : List ℕ) → updated_lists lists c (lists c ++ blocks_of packet) ≡ joined lists (brought_by (Ok (c, packet)))
 added lists c packet = fun_ext (λ k. go k (eqb k c) refl)
   where
     go : (k : ℕ) (t : Bool) → eqb k c ≡ t → cond t (lists c ++ blocks_of packet) (lists k) ≡ lists k ++ cond t (blocks_of packet) []
