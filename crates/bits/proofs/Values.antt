@@ -2,7 +2,9 @@
 use Rattle.std.proofs.Common.{◌≡◌, ℕ, zero, suc, ◌+◌, ◌*◌, ◌/◌, ◌%◌, ◌^◌, ◌<◌, Bool, true, false, eqb, ◌⊎◌, inl, inr, List, [], ◌∷◌, length, sym, refl, ap, ap₂, ◌∙◌, mod-eq_of_lt, pow-suc, one-add, arith, pow_pos}
 use Rattle.std.proofs.lemmas.Nat.{shr_high, mod_low, mod-pow-add}
 use Rattle.bits.specs.Bits.{odd, high_first, high_value}
+use Rattle.bits.specs.ReadBack.{ReadBack}
 use Rattle.bits.proofs.Digits.{digit, high_mod, length_high}
+use Rattle.bits.proofs.Places.{low_value_is, value_low}
 
 pub value_lt : (bs : List Bool) → high_value bs < 2 ^ length bs
 value_lt [] = pow_pos 0
@@ -52,3 +54,12 @@ value_high (suc k) n =
     ∙ ap (λ (x : ℕ). (n / 2 ^ k % 2) * 2 ^ x + n % 2 ^ k) (length_high k n)
     ∙ sym (mod-pow-add n 1 k)
     ∙ ap (λ (x : ℕ). n % 2 ^ x) (one-add k)
+
+-- ---- and all that is read back
+pub read_back : ReadBack
+read_back = record {
+  low_read = value_low;
+  low_written = low_value_is;
+  high_read = λ k n h. value_high k n ∙ mod-eq_of_lt h;
+  high_written = high_value_is;
+}

@@ -1,2 +1,3 @@
 pub mod Bits
 pub mod Splices
+pub mod ReadBack

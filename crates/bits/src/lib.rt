@@ -3,9 +3,16 @@
 #![tactic(auto)]
 
 ghost use Rattle.bits.specs.Bits.{Numbered};
+ghost use Rattle.bits.specs.ReadBack.{ReadBack};
 
 /// How the bits of bytes are numbered: bit 8 q + r is digit r of byte q.
 #[tactic(auto, using(crate::proofs::Places::numbered))]
 pub fn numbering_holds()
     ensures { Numbered }
+{}
+
+/// A number is read back from its bits, and bits are written again by their number, whichever digit stands first.
+#[tactic(auto, using(crate::proofs::Values::read_back))]
+pub fn numbers_read_back()
+    ensures { ReadBack }
 {}

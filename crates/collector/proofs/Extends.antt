@@ -6,8 +6,6 @@ use Rattle.std.proofs.lemmas.Bool.{eq-eqb, ne_eqb}
 use Rattle.bits.specs.Bits.{bits, field}
 use Rattle.crc.specs.Remainder.{remainder}
 use Rattle.message.specs.Values.{crc12}
-use Rattle.message.specs.declared.Kind.{Kind}
-use Rattle.message.specs.Kinds.{blocks_of}
 use Rattle.bits.proofs.Parts.{take_bits}
 use Rattle.collector.specs.Content.{Content, zero_padded}
 use Rattle.collector.proofs.Sizes.{few_blocks}
@@ -15,13 +13,12 @@ use Rattle.collector.specs.declared.assembly.Outcome.TheVariants.{Corrupt, Whole
 use Rattle.collector.specs.Outcomes.{tested_outcome}
 
 -- the values in memory after one more block
-put : (k : Kind) (b x y : ℕ) (vs : List ℕ) → b < blocks_of k → vs ≡ zero_padded (take (2 * b) vs) → length (take (2 * b) vs) ≡ 2 * b
+put : (b x y : ℕ) (vs : List ℕ) → b < 17 → vs ≡ zero_padded (take (2 * b) vs) → length (take (2 * b) vs) ≡ 2 * b
     → set (set vs (2 * b) x) (2 * b + 1) y ≡ zero_padded (take (2 * b) vs ++ x ∷ y ∷ [])
-put k b x y vs h e long =
+put b x y vs h e long =
     let front : List ℕ = take (2 * b) vs in
     let m : ℕ = 32 - 2 * b in
     let rest : List ℕ = replicate m 0 in
-    let few = few_blocks k in
     let room : 34 - length front ≡ suc (suc m) = omega arith in
     let all : length (front ++ x ∷ y ∷ []) ≡ 2 * b + 2 = length-append front (x ∷ y ∷ []) ∙ ap (λ (n : ℕ). n + 2) long in
     let one : length (front ++ x ∷ []) ≡ 2 * b + 1 = length-append front (x ∷ []) ∙ ap (λ (n : ℕ). n + 1) long in
@@ -35,27 +32,27 @@ put k b x y vs h e long =
     ∙ ap (λ (n : ℕ). (front ++ x ∷ y ∷ []) ++ replicate n 0) behind
 
 -- of these bytes, those that have come
-pub taken : (k : Kind) (b n x y : ℕ) (vs : List ℕ) → b < blocks_of k → vs ≡ zero_padded (take (2 * b) vs) → length (take (2 * b) vs) ≡ 2 * b → n ≡ b + 1
+pub taken : (b n x y : ℕ) (vs : List ℕ) → b < 17 → vs ≡ zero_padded (take (2 * b) vs) → length (take (2 * b) vs) ≡ 2 * b → n ≡ b + 1
     → take (2 * n) (set (set vs (2 * b) x) (2 * b + 1) y) ≡ take (2 * b) vs ++ x ∷ y ∷ []
-taken k b n x y vs h e long f =
+taken b n x y vs h e long f =
     let front : List ℕ = take (2 * b) vs in
     let all : length (front ++ x ∷ y ∷ []) ≡ 2 * n
     = length-append front (x ∷ y ∷ []) ∙ ap (λ (n : ℕ). n + 2) long ∙ (let z : 2 * b + 2 ≡ 2 * n = omega arith in z) in
-    ap (take (2 * n)) (put k b x y vs h e long)
+    ap (take (2 * n)) (put b x y vs h e long)
     ∙ take_at (front ++ x ∷ y ∷ []) (replicate (34 - length (front ++ x ∷ y ∷ [])) 0) (2 * n) all
 
-pub length_taken : (k : Kind) (b n x y : ℕ) (vs : List ℕ) → b < blocks_of k → vs ≡ zero_padded (take (2 * b) vs) → length (take (2 * b) vs) ≡ 2 * b → n ≡ b + 1
+pub length_taken : (b n x y : ℕ) (vs : List ℕ) → b < 17 → vs ≡ zero_padded (take (2 * b) vs) → length (take (2 * b) vs) ≡ 2 * b → n ≡ b + 1
     → length (take (2 * n) (set (set vs (2 * b) x) (2 * b + 1) y)) ≡ 2 * n
-length_taken k b n x y vs h e long f =
-    ap length (taken k b n x y vs h e long f)
+length_taken b n x y vs h e long f =
+    ap length (taken b n x y vs h e long f)
     ∙ length-append (take (2 * b) vs) (x ∷ y ∷ [])
     ∙ ap (λ (m : ℕ). m + 2) long
     ∙ (let z : 2 * b + 2 ≡ 2 * n = omega arith in z)
 
 -- zeros stand behind them again
-pub still_padded : (k : Kind) (b n x y : ℕ) (vs : List ℕ) → b < blocks_of k → vs ≡ zero_padded (take (2 * b) vs) → length (take (2 * b) vs) ≡ 2 * b → n ≡ b + 1
+pub still_padded : (b n x y : ℕ) (vs : List ℕ) → b < 17 → vs ≡ zero_padded (take (2 * b) vs) → length (take (2 * b) vs) ≡ 2 * b → n ≡ b + 1
     → set (set vs (2 * b) x) (2 * b + 1) y ≡ zero_padded (take (2 * n) (set (set vs (2 * b) x) (2 * b + 1) y))
-still_padded k b n x y vs h e long f = put k b x y vs h e long ∙ sym (ap zero_padded (taken k b n x y vs h e long f))
+still_padded b n x y vs h e long f = put b x y vs h e long ∙ sym (ap zero_padded (taken b n x y vs h e long f))
 
 pub last_test : (us : List ℕ) (b n x y : ℕ) → length us ≡ 2 * b → eqb (length (us ++ x ∷ y ∷ [])) (2 * n) ≡ eqb (b + 1) n
 last_test us b n x y h = ap (λ (m : ℕ). eqb m (2 * n)) (length-append us (x ∷ y ∷ [])) ∙ go (length us + 2) (b + 1) (omega arith)
@@ -76,3 +73,5 @@ is_whole u r e z = sym (ap (λ (t : Bool). cond t (Whole u) Corrupt) (eq-eqb (cr
 
 pub is_wrong : (u : Content) (r : ℕ) → r ≡ crc12 (bits u.values) → (r ≡ 0 → ⊥) → Corrupt ≡ tested_outcome u
 is_wrong u r e z = sym (ap (λ (t : Bool). cond t (Whole u) Corrupt) (ne_eqb (crc12 (bits u.values)) 0 (λ f. z (e ∙ f))))
+
+pub ruleset extending = (still_padded, length_taken, few_blocks)

@@ -5,9 +5,9 @@ use Rattle.bits.specs.Bits.{bits}
 use Rattle.message.specs.declared.Kind.{Kind}
 use Rattle.message.specs.declared.Kind.TheVariants.{Basic}
 use Rattle.message.specs.declared.MessageBlock.{MessageBlock}
-use Rattle.message.specs.Kinds.{blocks_of}
+use Rattle.message.specs.Kinds.{block_count_of}
 use Rattle.message.specs.Values.{crc12}
-use Rattle.message.specs.Written.{parts}
+use Rattle.message.specs.Written.{message_parts}
 use Rattle.message.proofs.Pairs.{take_two}
 use Rattle.collector.specs.declared.BlockError.TheVariants.{WrongRemainder, UnknownCode}
 use Rattle.collector.specs.declared.Report.{Report}
@@ -16,8 +16,8 @@ use Rattle.collector.specs.State.{State}
 use Rattle.collector.specs.declared.assembly.Outcome.{Outcome}
 use Rattle.collector.specs.declared.assembly.Outcome.TheVariants.{Broken, Incomplete, Corrupt, Whole}
 use Rattle.collector.specs.Outcomes.{continued_outcome, empty_message, extended_outcome, marked_outcome, next_outcome, same_kind, tested_outcome, with_block}
-use Rattle.collector.specs.Step.{found_of, is_aps, is_broken, new_state, one_mark, report_basic, report_kind, report_of, report_part, same}
-use Rattle.collector.specs.Runs.{ArrivesCorrupt, Call, Follows, NoneUnderWay, UnderWay, asked, begins, continues, gave, goes_kind, goes_to, own, run}
+use Rattle.collector.specs.Step.{found_of, is_aps, is_broken, new_state, one_mark, report_basic, report_kind, report_of, report_part, same_bool}
+use Rattle.collector.specs.Runs.{ArrivesCorrupt, Call, Follows, NoneUnderWay, UnderWay, collect, begins, continues, give, goes_kind, goes_to, own, state_after}
 use Rattle.collector.proofs.Extends.{last_test}
 use Rattle.collector.proofs.SameKinds.{one_kind, same_true}
 use Rattle.collector.proofs.Collections.{coll, advances, coll_run, advances_append}
@@ -34,8 +34,8 @@ AllGo g (b ∷ bs) = (goes_to g b ≡ true) × AllGo g bs
 own_go : (g : Bool) (cs : List Call) → AllGo g (own g cs)
 unfolding AllGo
 own_go g [] = tt
-own_go g (asked ∷ cs) = own_go g cs
-own_go g (gave b ∷ cs) = go (goes_to g b) refl (own_go g cs)
+own_go g (collect ∷ cs) = own_go g cs
+own_go g (give b ∷ cs) = go (goes_to g b) refl (own_go g cs)
   where
     go : (t : Bool) → goes_to g b ≡ t → AllGo g (own g cs) → AllGo g (cond t (b ∷ own g cs) (own g cs))
     go true e rest = (e, rest)
@@ -48,7 +48,7 @@ last_goes g (x ∷ xs) b h = last_goes g xs b h.1
 
 -- the collection holds the message that is under way
 pub under_way_held : (g : Bool) (before : List Call) (k : Kind) (us : List ℕ) → UnderWay g before k us
-    → coll g (run new_state before) ≡ Some (content k us)
+    → coll g (state_after new_state before) ≡ Some (content k us)
 under_way_held g before k us U =
     let i : ℕ = U.blocks in
     let some : 1 ≤ i = U.some in
@@ -59,29 +59,29 @@ under_way_held g before k us U =
     let us' : List ℕ = take (2 * m) us in
     let split : us ≡ us' ++ x ∷ y ∷ []
     = sym (take_all (2 * (m + 1)) us (omega arith)) ∙ take_two us m (omega arith) in
-    let ends : own g before ≡ (U.front ++ parts k us') ++ part_at k m x y ∷ []
-    = U.is ∙ ap (λ (vs : List ℕ). U.front ++ parts k vs) split
+    let ends : own g before ≡ (U.front ++ message_parts k us') ++ part_at k m x y ∷ []
+    = U.is ∙ ap (λ (vs : List ℕ). U.front ++ message_parts k vs) split
     ∙ ap (λ (l : List MessageBlock). U.front ++ l) (parts_push k m us' x y (length-take-le (2 * m) us (omega arith)))
-    ∙ sym (append_assoc U.front (parts k us') (part_at k m x y ∷ [])) in
+    ∙ sym (append_assoc U.front (message_parts k us') (part_at k m x y ∷ [])) in
     let goes : goes_kind g (Some k) ≡ true
-    = last_goes g (U.front ++ parts k us') (part_at k m x y) (subst (AllGo g) ends (own_go g before)) in
+    = last_goes g (U.front ++ message_parts k us') (part_at k m x y) (subst (AllGo g) ends (own_go g before)) in
     let all : take (2 * i) us ≡ us = take_all (2 * i) us (omega arith) in
     let c : Option Content = coll g new_state in
     coll_run g new_state before
     ∙ ap (advances g c) U.is
-    ∙ advances_append g c U.front (parts k us)
-    ∙ ap (λ (vs : List ℕ). advances g (advances g c U.front) (parts k vs)) (sym all)
+    ∙ advances_append g c U.front (message_parts k us)
+    ∙ ap (λ (vs : List ℕ). advances g (advances g c U.front) (message_parts k vs)) (sym all)
     ∙ collected g k us (advances g c U.front) goes i (omega arith) U.some U.few
     ∙ ap (λ (vs : List ℕ). Some (content k vs)) all
 
 abbrev held_under_way : (g : Bool) (before : List Call) (k : Kind) (u : Content) → Came (own g before) (Some u) → u.kind ≡ k → UnderWay g before k u.values
 held_under_way g before k u C e = record {
   front = C.2.front;
-  is = C.2.is ∙ ap (λ (z : Kind). C.2.front ++ parts z u.values) e;
+  is = C.2.is ∙ ap (λ (z : Kind). C.2.front ++ message_parts z u.values) e;
   blocks = C.0;
   long = C.2.long;
   some = C.1;
-  few = subst (λ (z : Kind). C.0 < blocks_of z) e C.3;
+  few = subst (λ (z : Kind). C.0 < block_count_of z) e C.3;
 }
 
 -- ---- P3
@@ -105,15 +105,15 @@ marks_unbroken u true false h = absurd (let z : ◌≡◌ {A = ℕ} 0 1 = cc in 
 marks_unbroken u false true h = absurd (let z : ◌≡◌ {A = ℕ} 0 1 = cc in omega arith)
 marks_unbroken u false false h = refl
 
-ends_of : (u : Content) (b : MessageBlock) (i : ℕ) → length u.values ≡ 2 * i → is_broken (extended_outcome u b) ≡ false → b.ends ≡ eqb (i + 1) (blocks_of u.kind)
+ends_of : (u : Content) (b : MessageBlock) (i : ℕ) → length u.values ≡ 2 * i → is_broken (extended_outcome u b) ≡ false → b.ends ≡ eqb (i + 1) (block_count_of u.kind)
 ends_of u b i l h =
-    unbroken_marks (with_block u b) b.ends (eqb (length (with_block u b).values) (2 * blocks_of u.kind)) h
-    ∙ last_test u.values i (blocks_of u.kind) b.first b.second l
+    unbroken_marks (with_block u b) b.ends (eqb (length (with_block u b).values) (2 * block_count_of u.kind)) h
+    ∙ last_test u.values i (block_count_of u.kind) b.first b.second l
 
-ends_unbroken : (u : Content) (b : MessageBlock) (i : ℕ) → length u.values ≡ 2 * i → b.ends ≡ eqb (i + 1) (blocks_of u.kind) → is_broken (extended_outcome u b) ≡ false
+ends_unbroken : (u : Content) (b : MessageBlock) (i : ℕ) → length u.values ≡ 2 * i → b.ends ≡ eqb (i + 1) (block_count_of u.kind) → is_broken (extended_outcome u b) ≡ false
 ends_unbroken u b i l h =
-    marks_unbroken (with_block u b) b.ends (eqb (length (with_block u b).values) (2 * blocks_of u.kind))
-    (h ∙ sym (last_test u.values i (blocks_of u.kind) b.first b.second l))
+    marks_unbroken (with_block u b) b.ends (eqb (length (with_block u b).values) (2 * block_count_of u.kind))
+    (h ∙ sym (last_test u.values i (block_count_of u.kind) b.first b.second l))
 
 -- whether a block of kind k breaks the sequence, by its start mark and by what its collection holds
 abbrev pub breaks : Kind → MessageBlock → Bool → Option Content → Bool
@@ -125,7 +125,7 @@ broken_is s b k e f =
     ap (λ (x : Option Kind). (report_kind x s b).broken) e
     ∙ ap (λ (t : Bool). (cond t (report_basic b) (report_part k s b)).broken) f
 
-follows_from : (before : List Call) (b : MessageBlock) (k : Kind) → (t : Bool) → b.starts ≡ t → (c : Option Content) → coll (is_aps k) (run new_state before) ≡ c
+follows_from : (before : List Call) (b : MessageBlock) (k : Kind) → (t : Bool) → b.starts ≡ t → (c : Option Content) → coll (is_aps k) (state_after new_state before) ≡ c
     → Came (own (is_aps k) before) c → breaks k b t c ≡ false → Follows before b k
 follows_from before b k true s None e C h =
     begins s
@@ -140,16 +140,16 @@ follows_from before b k false s (Some u) e C h = go (same_kind u.kind k) refl h
     go true r q =
         let kind : u.kind ≡ k = one_kind u.kind k r in
         continues u.values (held_under_way (is_aps k) before k u C kind) s
-        (ends_of u b C.0 C.2.long q ∙ ap (λ (z : Kind). eqb (C.0 + 1) (blocks_of z)) kind)
+        (ends_of u b C.0 C.2.long q ∙ ap (λ (z : Kind). eqb (C.0 + 1) (block_count_of z)) kind)
 
-none_held : (g : Bool) (before : List Call) → NoneUnderWay g before → (c : Option Content) → coll g (run new_state before) ≡ c → coll g (run new_state before) ≡ None
+none_held : (g : Bool) (before : List Call) → NoneUnderWay g before → (c : Option Content) → coll g (state_after new_state before) ≡ c → coll g (state_after new_state before) ≡ None
 none_held g before N None e = e
 none_held g before N (Some u) e =
     absurd (N u.kind u.values (held_under_way g before u.kind u (subst (Came (own g before)) e (came g before)) refl))
 
-unbroken : (before : List Call) (b : MessageBlock) (k : Kind) → Follows before b k → breaks k b b.starts (coll (is_aps k) (run new_state before)) ≡ false
+unbroken : (before : List Call) (b : MessageBlock) (k : Kind) → Follows before b k → breaks k b b.starts (coll (is_aps k) (state_after new_state before)) ≡ false
 unbroken before b k (begins s N e) =
-    ap₂ (breaks k b) s (none_held (is_aps k) before N (coll (is_aps k) (run new_state before)) refl)
+    ap₂ (breaks k b) s (none_held (is_aps k) before N (coll (is_aps k) (state_after new_state before)) refl)
     ∙ ends_unbroken (empty_message k) b 0 refl e
 unbroken before b k (continues us U s e) =
     ap₂ (breaks k b) s (under_way_held (is_aps k) before k us U)
@@ -164,15 +164,15 @@ not_basic k n = go (same_kind k Basic) refl
     go false e = e
 
 pub sequence : (before : List Call) (b : MessageBlock) (k : Kind) → b.kind ≡ Some k → (k ≡ Basic → ⊥)
-    → ((report_of (run new_state before) b).broken ≡ false) ↔ Follows before b k
+    → ((report_of (state_after new_state before) b).broken ≡ false) ↔ Follows before b k
 sequence before b k e n =
-    let is = broken_is (run new_state before) b k e (not_basic k n) in (
-      λ h. follows_from before b k b.starts refl (coll (is_aps k) (run new_state before)) refl (came (is_aps k) before) (sym is ∙ h),
+    let is = broken_is (state_after new_state before) b k e (not_basic k n) in (
+      λ h. follows_from before b k b.starts refl (coll (is_aps k) (state_after new_state before)) refl (came (is_aps k) before) (sym is ∙ h),
       λ F. is ∙ unbroken before b k F,
     )
 
-pub basic_sequence : (s : State) (b : MessageBlock) → b.kind ≡ Some Basic → (report_of s b).broken ≡ same b.starts b.ends
-basic_sequence s b e = ap (λ (x : Option Kind). (report_kind x s b).broken) e ∙ go (same b.starts b.ends)
+pub basic_sequence : (s : State) (b : MessageBlock) → b.kind ≡ Some Basic → (report_of s b).broken ≡ same_bool b.starts b.ends
+basic_sequence s b e = ap (λ (x : Option Kind). (report_kind x s b).broken) e ∙ go (same_bool b.starts b.ends)
   where
     go : (t : Bool) → (cond {A = Report} (not t) (record { broken = false; found = Ok (Some Basic) }) (record { broken = true; found = Ok None })).broken ≡ t
     go true = refl
@@ -201,12 +201,12 @@ wrong_part before b k Corrupt e f M w = record {
 wrong_part before b k (Whole u) e f M w = absurd (let z : ◌≡◌ {A = ℕ} 0 1 = cc in omega arith)
 
 wrong_kind : (before : List Call) (b : MessageBlock) (o : Option Kind) → b.kind ≡ o
-    → (report_kind o (run new_state before) b).found ≡ Err WrongRemainder → ArrivesCorrupt before b
+    → (report_kind o (state_after new_state before) b).found ≡ Err WrongRemainder → ArrivesCorrupt before b
 wrong_kind before b None e w = absurd (let z : ◌≡◌ {A = ℕ} 0 1 = cc in omega arith)
 wrong_kind before b (Some k) e w = go (same_kind k Basic) refl w
   where
     S : State
-    S = run new_state before
+    S = state_after new_state before
 
     go : (t : Bool) → same_kind k Basic ≡ t → (cond t (report_basic b) (report_part k S b)).found ≡ Err WrongRemainder → ArrivesCorrupt before b
     go true r v = absurd (no_wrong b (one_mark b) v)
@@ -215,7 +215,7 @@ wrong_kind before b (Some k) e w = go (same_kind k Basic) refl w
         (next_makes (own (is_aps k) before) k (coll (is_aps k) S) b (came (is_aps k) before) e) v
 
 pub remainder : (before : List Call) (b : MessageBlock)
-    → ((report_of (run new_state before) b).found ≡ Err WrongRemainder) ↔ ArrivesCorrupt before b
+    → ((report_of (state_after new_state before) b).found ≡ Err WrongRemainder) ↔ ArrivesCorrupt before b
 remainder before b = (
   wrong_kind before b b.kind refl,
   λ h. corrupt_found new_state before b h.kind h.values h.arrives h.remainder,

@@ -6,10 +6,10 @@ use Rattle.bits.specs.Bits.{bits}
 use Rattle.message.specs.declared.Kind.{Kind}
 use Rattle.message.specs.declared.Kind.TheVariants.{Basic}
 use Rattle.message.specs.declared.MessageBlock.{MessageBlock}
-use Rattle.message.specs.Kinds.{blocks_of}
-use Rattle.message.specs.Blocks.{said}
+use Rattle.message.specs.Kinds.{block_count_of}
+use Rattle.message.specs.Blocks.{message_block_of}
 use Rattle.message.specs.Values.{crc12}
-use Rattle.message.specs.Written.{parts}
+use Rattle.message.specs.Written.{message_parts}
 use Rattle.message.proofs.Writes.{some_blocks}
 use Rattle.collector.specs.declared.Report.{Report}
 use Rattle.collector.specs.Content.{Content}
@@ -17,8 +17,8 @@ use Rattle.collector.specs.State.{State}
 use Rattle.collector.specs.declared.assembly.Outcome.{Outcome}
 use Rattle.collector.specs.declared.assembly.Outcome.TheVariants.{Broken, Incomplete, Corrupt, Whole}
 use Rattle.collector.specs.Outcomes.{continued_outcome, extended_outcome, with_block, marked_outcome, next_outcome, same_kind, unfinished_of}
-use Rattle.collector.specs.Step.{after, found_of, is_aps, new_state, one_mark, report_basic, report_kind, report_of, report_part, same, unasked}
-use Rattle.collector.specs.Runs.{Call, gave, asked, goes_kind, goes_to, own, run, Arrives, Completes}
+use Rattle.collector.specs.Step.{after, found_of, is_aps, new_state, one_mark, report_basic, report_kind, report_of, report_part, same_bool, with_no_question}
+use Rattle.collector.specs.Runs.{Call, give, collect, goes_kind, goes_to, own, state_after, Arrives, Completes}
 use Rattle.collector.specs.Laws.{FoundWhole}
 use Rattle.collector.proofs.Extends.{last_test}
 use Rattle.collector.proofs.Collections.{coll, advance, advance_kind, advance_other, coll_kind, own_push, own_asked}
@@ -29,43 +29,43 @@ use Rattle.collector.proofs.Wholes.{part_at, content, parts_push, whole_found}
 -- some blocks end with the first i blocks of a message
 pub record Ends (h : List MessageBlock) (u : Content) (i : ℕ) : Type 0 where
   pub front : List MessageBlock
-  pub is : h ≡ front ++ parts u.kind u.values
+  pub is : h ≡ front ++ message_parts u.kind u.values
   pub long : length u.values ≡ 2 * i
 
 -- what a collection holds has come
 abbrev pub Came : List MessageBlock → Option Content → Type 0
 Came h None = Unit {0}
-Came h (Some u) = (i : ℕ) × (1 ≤ i) × Ends h u i × (i < blocks_of u.kind)
+Came h (Some u) = (i : ℕ) × (1 ≤ i) × Ends h u i × (i < block_count_of u.kind)
 
 -- and what is made of it at a block
 abbrev pub Makes : List MessageBlock → Option Kind → Outcome → Type 0
 Makes h o Broken = Unit {0}
 Makes h o (Incomplete u) = Came h (Some u)
-Makes h o Corrupt = (u : Content) × Ends h u (blocks_of u.kind) × (crc12 (bits u.values) ≡ 0 → ⊥) × (o ≡ Some u.kind)
-Makes h o (Whole u) = Ends h u (blocks_of u.kind) × (crc12 (bits u.values) ≡ 0) × (o ≡ Some u.kind)
+Makes h o Corrupt = (u : Content) × Ends h u (block_count_of u.kind) × (crc12 (bits u.values) ≡ 0 → ⊥) × (o ≡ Some u.kind)
+Makes h o (Whole u) = Ends h u (block_count_of u.kind) × (crc12 (bits u.values) ≡ 0) × (o ≡ Some u.kind)
 
 -- a block behind the first i blocks of its message, with the marks of its place
 behind : (h : List MessageBlock) (u : Content) (i : ℕ) (b : MessageBlock) → Ends h u i → b.kind ≡ Some u.kind
-    → b.starts ≡ eqb i 0 → b.ends ≡ eqb (i + 1) (blocks_of u.kind) → Ends (h ++ b ∷ []) (with_block u b) (i + 1)
+    → b.starts ≡ eqb i 0 → b.ends ≡ eqb (i + 1) (block_count_of u.kind) → Ends (h ++ b ∷ []) (with_block u b) (i + 1)
 behind h u i b E e s t =
     let k : Kind = u.kind in
     let kinded : Option Kind → MessageBlock = λ x. record { kind = x; starts = b.starts; ends = b.ends; first = b.first; second = b.second } in
-    let marked : Bool → Bool → MessageBlock = λ x y. said k x y b.first b.second in
+    let marked : Bool → Bool → MessageBlock = λ x y. message_block_of k x y b.first b.second in
     let part : b ≡ part_at k i b.first b.second = ap kinded e ∙ ap₂ marked s t in
     record {
       front = E.front;
       is = ap₂ (λ (x : List MessageBlock) (y : MessageBlock). x ++ y ∷ []) E.is part
-          ∙ append_assoc E.front (parts k u.values) (part_at k i b.first b.second ∷ [])
+          ∙ append_assoc E.front (message_parts k u.values) (part_at k i b.first b.second ∷ [])
           ∙ ap (λ (l : List MessageBlock). E.front ++ l) (sym (parts_push k i u.values b.first b.second E.long));
       long = length-append u.values (b.first ∷ b.second ∷ []) ∙ (let z : length u.values + 2 ≡ 2 * (i + 1) = omega (arith, E.long) in z);
     }
 
-judged_makes : (h : List MessageBlock) (u : Content) (i : ℕ) (b : MessageBlock) (e l : Bool) → Ends h u i → i < blocks_of u.kind → b.kind ≡ Some u.kind
-    → b.starts ≡ eqb i 0 → b.ends ≡ e → eqb (i + 1) (blocks_of u.kind) ≡ l → Makes (h ++ b ∷ []) b.kind (marked_outcome (with_block u b) e l)
+judged_makes : (h : List MessageBlock) (u : Content) (i : ℕ) (b : MessageBlock) (e l : Bool) → Ends h u i → i < block_count_of u.kind → b.kind ≡ Some u.kind
+    → b.starts ≡ eqb i 0 → b.ends ≡ e → eqb (i + 1) (block_count_of u.kind) ≡ l → Makes (h ++ b ∷ []) b.kind (marked_outcome (with_block u b) e l)
 judged_makes h u i b true true E f k s p q = go (eqb (crc12 (bits (with_block u b).values)) 0) refl
   where
-    here : Ends (h ++ b ∷ []) (with_block u b) (blocks_of u.kind)
-    here = subst (Ends (h ++ b ∷ []) (with_block u b)) (eqb-true (i + 1) (blocks_of u.kind) q) (behind h u i b E k s (p ∙ sym q))
+    here : Ends (h ++ b ∷ []) (with_block u b) (block_count_of u.kind)
+    here = subst (Ends (h ++ b ∷ []) (with_block u b)) (eqb-true (i + 1) (block_count_of u.kind) q) (behind h u i b E k s (p ∙ sym q))
 
     go : (t : Bool) → eqb (crc12 (bits (with_block u b).values)) 0 ≡ t → Makes (h ++ b ∷ []) b.kind (cond t (Whole (with_block u b)) Corrupt)
     go true r = (here, eqb-true (crc12 (bits (with_block u b).values)) 0 r, k)
@@ -73,14 +73,14 @@ judged_makes h u i b true true E f k s p q = go (eqb (crc12 (bits (with_block u 
 judged_makes h u i b true false E f k s p q = tt
 judged_makes h u i b false true E f k s p q = tt
 judged_makes h u i b false false E f k s p q =
-    let other : i + 1 ≡ blocks_of u.kind → ⊥ = eqb-false (i + 1) (blocks_of u.kind) q in
+    let other : i + 1 ≡ block_count_of u.kind → ⊥ = eqb-false (i + 1) (block_count_of u.kind) q in
     (i + 1, omega arith, behind h u i b E k s (p ∙ sym q), omega arith)
 
-extended_makes : (h : List MessageBlock) (u : Content) (i : ℕ) (b : MessageBlock) → Ends h u i → i < blocks_of u.kind → b.kind ≡ Some u.kind
+extended_makes : (h : List MessageBlock) (u : Content) (i : ℕ) (b : MessageBlock) → Ends h u i → i < block_count_of u.kind → b.kind ≡ Some u.kind
     → b.starts ≡ eqb i 0 → Makes (h ++ b ∷ []) b.kind (extended_outcome u b)
 extended_makes h u i b E f k s =
-    judged_makes h u i b b.ends (eqb (length (with_block u b).values) (2 * blocks_of u.kind)) E f k s refl
-    (sym (last_test u.values i (blocks_of u.kind) b.first b.second E.long))
+    judged_makes h u i b b.ends (eqb (length (with_block u b).values) (2 * block_count_of u.kind)) E f k s refl
+    (sym (last_test u.values i (block_count_of u.kind) b.first b.second E.long))
 
 continued_makes : (h : List MessageBlock) (k : Kind) (c : Option Content) (b : MessageBlock) → Came h c → b.kind ≡ Some k
     → b.starts ≡ false → Makes (h ++ b ∷ []) b.kind (continued_outcome k c b)
@@ -116,44 +116,44 @@ came_kind g h c b None e t C = absurd (let z : ◌≡◌ {A = ℕ} 0 1 = cc in o
 came_kind g h c b (Some k) e t C =
     subst (λ (x : Bool). Came (h ++ b ∷ []) (cond x (unfinished_of (next_outcome k c b)) c)) (sym t) (came_left (h ++ b ∷ []) b.kind (next_outcome k c b) (next_makes h k c b C e))
 
-came_after : (g : Bool) (h : List Call) (s : State) (b : MessageBlock) → Came (own g h) (coll g s) → Came (own g (h ++ gave b ∷ [])) (coll g (after s b))
+came_after : (g : Bool) (h : List Call) (s : State) (b : MessageBlock) → Came (own g h) (coll g s) → Came (own g (h ++ give b ∷ [])) (coll g (after s b))
 came_after g h s b C =
     let P : List MessageBlock → Option Content → Type 0 = λ l c. Came l c in
-    subst (P (own g (h ++ gave b ∷ []))) (sym (coll_kind g b.kind s b)) (go (goes_to g b) refl)
+    subst (P (own g (h ++ give b ∷ []))) (sym (coll_kind g b.kind s b)) (go (goes_to g b) refl)
   where
-    go : (t : Bool) → goes_to g b ≡ t → Came (own g (h ++ gave b ∷ [])) (advance g (coll g s) b)
+    go : (t : Bool) → goes_to g b ≡ t → Came (own g (h ++ give b ∷ [])) (advance g (coll g s) b)
     go true e = subst (λ (l : List MessageBlock). Came l (advance g (coll g s) b)) (sym (own_push g h b true e)) (came_kind g (own g h) (coll g s) b b.kind refl e C)
     go false e =
         subst (λ (l : List MessageBlock). Came l (advance g (coll g s) b)) (sym (own_push g h b false e ∙ append-nil (own g h)))
         (subst (Came (own g h)) (sym (advance_other g b.kind (coll g s) b e)) C)
 
-came_asked : (g : Bool) (h : List Call) (s : State) → Came (own g h) (coll g s) → Came (own g (h ++ asked ∷ [])) (coll g (unasked s))
-came_asked g h s C = subst (λ (l : List MessageBlock). Came l (coll g (unasked s))) (sym (own_asked g h)) (go g C)
+came_asked : (g : Bool) (h : List Call) (s : State) → Came (own g h) (coll g s) → Came (own g (h ++ collect ∷ [])) (coll g (with_no_question s))
+came_asked g h s C = subst (λ (l : List MessageBlock). Came l (coll g (with_no_question s))) (sym (own_asked g h)) (go g C)
   where
-    go : (t : Bool) → Came (own g h) (coll t s) → Came (own g h) (coll t (unasked s))
+    go : (t : Bool) → Came (own g h) (coll t s) → Came (own g h) (coll t (with_no_question s))
     go true D = D
     go false D = D
 
-came_run : (g : Bool) (h cs : List Call) (s : State) → Came (own g h) (coll g s) → Came (own g (h ++ cs)) (coll g (run s cs))
+came_run : (g : Bool) (h cs : List Call) (s : State) → Came (own g h) (coll g s) → Came (own g (h ++ cs)) (coll g (state_after s cs))
 came_run g h [] s C = subst (λ (l : List Call). Came (own g l) (coll g s)) (sym (append-nil h)) C
-came_run g h (gave b ∷ cs) s C =
-    subst (λ (l : List Call). Came (own g l) (coll g (run s (gave b ∷ cs)))) (append_assoc h (gave b ∷ []) cs)
-    (came_run g (h ++ gave b ∷ []) cs (after s b) (came_after g h s b C))
-came_run g h (asked ∷ cs) s C =
-    subst (λ (l : List Call). Came (own g l) (coll g (run s (asked ∷ cs)))) (append_assoc h (asked ∷ []) cs)
-    (came_run g (h ++ asked ∷ []) cs (unasked s) (came_asked g h s C))
+came_run g h (give b ∷ cs) s C =
+    subst (λ (l : List Call). Came (own g l) (coll g (state_after s (give b ∷ cs)))) (append_assoc h (give b ∷ []) cs)
+    (came_run g (h ++ give b ∷ []) cs (after s b) (came_after g h s b C))
+came_run g h (collect ∷ cs) s C =
+    subst (λ (l : List Call). Came (own g l) (coll g (state_after s (collect ∷ cs)))) (append_assoc h (collect ∷ []) cs)
+    (came_run g (h ++ collect ∷ []) cs (with_no_question s) (came_asked g h s C))
 
-pub came : (g : Bool) (cs : List Call) → Came (own g cs) (coll g (run new_state cs))
+pub came : (g : Bool) (cs : List Call) → Came (own g cs) (coll g (state_after new_state cs))
 came true cs = came_run true [] cs new_state tt
 came false cs = came_run false [] cs new_state tt
 
-pub same_self : (t : Bool) → same t t ≡ true
+pub same_self : (t : Bool) → same_bool t t ≡ true
 same_self true = refl
 same_self false = refl
 
 -- the blocks of a message, as they were given
 pub arrives : (before : List Call) (b : MessageBlock) (k : Kind) (u : Content) → b.kind ≡ Some k → same_kind k Basic ≡ false
-    → Ends (own (is_aps k) before ++ b ∷ []) u (blocks_of u.kind) → b.kind ≡ Some u.kind → Arrives before b k u.values
+    → Ends (own (is_aps k) before ++ b ∷ []) u (block_count_of u.kind) → b.kind ≡ Some u.kind → Arrives before b k u.values
 arrives before b k u e f E o =
     let s : Some u.kind ≡ Some k = sym o ∙ e in
     let kind : u.kind ≡ k = cc in
@@ -162,8 +162,8 @@ arrives before b k u e f E o =
     record {
       front = E.front;
       goes = goes;
-      is = own_push (is_aps k) before b true goes ∙ E.is ∙ ap (λ (z : Kind). E.front ++ parts z u.values) kind;
-      long = E.long ∙ ap (λ (z : Kind). 2 * blocks_of z) kind;
+      is = own_push (is_aps k) before b true goes ∙ E.is ∙ ap (λ (z : Kind). E.front ++ message_parts z u.values) kind;
+      long = E.long ∙ ap (λ (z : Kind). 2 * block_count_of z) kind;
     }
 
 found_part : (before : List Call) (b : MessageBlock) (k l : Kind) (o : Outcome) → b.kind ≡ Some l → same_kind l Basic ≡ false
@@ -182,12 +182,12 @@ no_basic b k true h w = h (let z : k ≡ Basic = cc in z)
 no_basic b k false h w = let z : ◌≡◌ {A = ℕ} 0 1 = cc in omega arith
 
 found_kind : (before : List Call) (b : MessageBlock) (k : Kind) (o : Option Kind) → b.kind ≡ o
-    → (report_kind o (run new_state before) b).found ≡ Ok (Some k) → (k ≡ Basic → ⊥) → (us : List ℕ) × Completes before b k us
+    → (report_kind o (state_after new_state before) b).found ≡ Ok (Some k) → (k ≡ Basic → ⊥) → (us : List ℕ) × Completes before b k us
 found_kind before b k None e w h = absurd (let z : ◌≡◌ {A = ℕ} 0 1 = cc in omega arith)
 found_kind before b k (Some l) e w h = go (same_kind l Basic) refl w
   where
     S : State
-    S = run new_state before
+    S = state_after new_state before
 
     go : (t : Bool) → same_kind l Basic ≡ t → (cond t (report_basic b) (report_part l S b)).found ≡ Ok (Some k) → (us : List ℕ) × Completes before b k us
     go true r v = absurd (no_basic b k (one_mark b) h v)
@@ -196,7 +196,7 @@ found_kind before b k (Some l) e w h = go (same_kind l Basic) refl w
         (next_makes (own (is_aps l) before) l (coll (is_aps l) S) b (came (is_aps l) before) e) v
 
 pub only_whole : (before : List Call) (b : MessageBlock) (k : Kind)
-    → (report_of (run new_state before) b).found ≡ Ok (Some k) → (k ≡ Basic → ⊥)
+    → (report_of (state_after new_state before) b).found ≡ Ok (Some k) → (k ≡ Basic → ⊥)
     → (us : List ℕ) × Completes before b k us × FoundWhole new_state before b k us
 only_whole before b k w h =
     let c = found_kind before b k b.kind refl w h in

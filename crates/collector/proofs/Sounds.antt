@@ -6,7 +6,7 @@ use Rattle.bits.specs.Bits.{bits}
 use Rattle.message.specs.declared.Kind.{Kind}
 use Rattle.message.specs.declared.Kind.TheVariants.{Basic, Aps, Cv, OneDm, TwoDmm, TwoDmr, Cs}
 use Rattle.message.specs.declared.MessageBlock.{MessageBlock}
-use Rattle.message.specs.Kinds.{blocks_of}
+use Rattle.message.specs.Kinds.{block_count_of}
 use Rattle.message.specs.Values.{crc12}
 use Rattle.message.proofs.Writes.{some_blocks}
 use Rattle.collector.specs.Content.{Content, IsPart}
@@ -14,20 +14,20 @@ use Rattle.collector.specs.State.{State, Sound, IsFull, last_of, place_of}
 use Rattle.collector.specs.declared.assembly.Outcome.{Outcome}
 use Rattle.collector.specs.declared.assembly.Outcome.TheVariants.{Broken, Incomplete, Corrupt, Whole}
 use Rattle.collector.specs.Outcomes.{IsSized, continued_outcome, empty_message, extended_outcome, marked_outcome, next_outcome, same_kind, tested_outcome, with_block}
-use Rattle.collector.specs.Step.{after, after_basic, after_kind, after_part, basic_content, collection_of, held, is_aps, kept, new_state, one_mark, settled, unasked}
-use Rattle.collector.specs.Runs.{Call, gave, asked, run}
+use Rattle.collector.specs.Step.{after, after_basic, after_kind, after_part, basic_content, collection_of, with_collection, is_aps, with_last_whole, new_state, one_mark, after_outcome, with_no_question}
+use Rattle.collector.specs.Runs.{Call, give, collect, state_after}
 use Rattle.collector.proofs.SameKinds.{one_kind}
 
 -- ---- outcomes
 
-sized_tested : (u : Content) → length u.values ≡ 2 * blocks_of u.kind → IsSized (tested_outcome u)
+sized_tested : (u : Content) → length u.values ≡ 2 * block_count_of u.kind → IsSized (tested_outcome u)
 sized_tested u h = go (eqb (crc12 (bits u.values)) 0)
   where
     go : (t : Bool) → IsSized (cond t (Whole u) Corrupt)
     go true = h
     go false = tt
 
-sized_marked : (u : Content) (e l : Bool) → (l ≡ true → length u.values ≡ 2 * blocks_of u.kind) → (l ≡ false → IsPart u) → IsSized (marked_outcome u e l)
+sized_marked : (u : Content) (e l : Bool) → (l ≡ true → length u.values ≡ 2 * block_count_of u.kind) → (l ≡ false → IsPart u) → IsSized (marked_outcome u e l)
 sized_marked u true true h p = sized_tested u (h refl)
 sized_marked u true false h p = tt
 sized_marked u false true h p = tt
@@ -36,7 +36,7 @@ sized_marked u false false h p = p refl
 -- a message that lacks blocks, with one block more
 pub sized_extended : (u : Content) (b : MessageBlock) → IsPart u → IsSized (extended_outcome u b)
 sized_extended u b p =
-    let n : ℕ = blocks_of u.kind in
+    let n : ℕ = block_count_of u.kind in
     let long : length (with_block u b).values ≡ 2 * (p.blocks + 1)
     = length-append u.values (b.first ∷ b.second ∷ []) ∙ (let z : length u.values + 2 ≡ 2 * (p.blocks + 1) = omega (arith, p.long) in z) in
     sized_marked (with_block u b) b.ends (eqb (length (with_block u b).values) (2 * n))
@@ -88,12 +88,12 @@ one_place k l e = sym (back k) ∙ ap at e ∙ back l
     back Cs = refl
 
 -- the last messages, after one more of kind k
-pub last_kept_same : (k : Kind) (u : Content) (s : State) → u.kind ≡ k → length s.kept ≡ 7 → last_of k (kept u s) ≡ Some u
+pub last_kept_same : (k : Kind) (u : Content) (s : State) → u.kind ≡ k → length s.kept ≡ 7 → last_of k (with_last_whole u s) ≡ Some u
 last_kept_same k u s e h =
     ap (λ (l : Kind). get_or (set s.kept (place_of l) (Some u)) (place_of k) None) e
     ∙ get_or-set_same s.kept (place_of k) (Some u) None (omega (arith, place_below k, h))
 
-pub last_kept_other : (k : Kind) (u : Content) (s : State) → (k ≡ u.kind → ⊥) → last_of k (kept u s) ≡ last_of k s
+pub last_kept_other : (k : Kind) (u : Content) (s : State) → (k ≡ u.kind → ⊥) → last_of k (with_last_whole u s) ≡ last_of k s
 last_kept_other k u s n = get_or-set_other s.kept (place_of u.kind) (place_of k) (Some u) None (λ e. n (one_place k u.kind e))
 
 -- ---- collectors
@@ -110,7 +110,7 @@ sound_new = record { places = refl; aps_part = tt; low_part = tt; last_full = no
     none TwoDmr = tt
     none Cs = tt
 
-sound_held : (k : Kind) (c : Option Content) (s : State) → IfSome c IsPart → Sound s → Sound (held k c s)
+sound_held : (k : Kind) (c : Option Content) (s : State) → IfSome c IsPart → Sound s → Sound (with_collection k c s)
 sound_held k c s p h = record {
   places = h.places;
   aps_part = go c s.aps (is_aps k) p h.aps_part;
@@ -123,38 +123,38 @@ sound_held k c s p h = record {
     go x y true p q = p
     go x y false p q = q
 
-sound_kept : (u : Content) (s : State) → length u.values ≡ 2 * blocks_of u.kind → Sound s → Sound (kept u s)
+sound_kept : (u : Content) (s : State) → length u.values ≡ 2 * block_count_of u.kind → Sound s → Sound (with_last_whole u s)
 sound_kept u s l h = record {
   places = length-set s.kept (place_of u.kind) (Some u) ∙ h.places;
   aps_part = h.aps_part;
   low_part = h.low_part;
   last_full = λ k. full k (eqb (place_of k) (place_of u.kind)) refl;
-  time_long = asked (same_kind u.kind TwoDmm) refl;
+  time_long = time (same_kind u.kind TwoDmm) refl;
 }
   where
-    full : (k : Kind) (t : Bool) → eqb (place_of k) (place_of u.kind) ≡ t → IfSome (last_of k (kept u s)) (IsFull k)
+    full : (k : Kind) (t : Bool) → eqb (place_of k) (place_of u.kind) ≡ t → IfSome (last_of k (with_last_whole u s)) (IsFull k)
     full k true e =
         let one : u.kind ≡ k = sym (one_place k u.kind (eqb-true (place_of k) (place_of u.kind) e)) in
         subst (λ (m : Option Content). IfSome m (IsFull k)) (sym (last_kept_same k u s one h.places))
-        (record { kind = one; long = l ∙ ap (λ (k : Kind). 2 * blocks_of k) one })
+        (record { kind = one; long = l ∙ ap (λ (k : Kind). 2 * block_count_of k) one })
     full k false e =
         subst (λ (m : Option Content). IfSome m (IsFull k))
         (sym (last_kept_other k u s (λ f. eqb-false (place_of k) (place_of u.kind) e (ap place_of f))))
         (h.last_full k)
 
-    asked : (t : Bool) → same_kind u.kind TwoDmm ≡ t → IfSome (cond t (Some (take 8 u.values)) s.question) (λ x. length x ≡ 8)
-    asked true e =
-        let ten : length u.values ≡ 10 = l ∙ ap (λ (k : Kind). 2 * blocks_of k) (one_kind u.kind TwoDmm e) in
+    time : (t : Bool) → same_kind u.kind TwoDmm ≡ t → IfSome (cond t (Some (take 8 u.values)) s.question) (λ x. length x ≡ 8)
+    time true e =
+        let ten : length u.values ≡ 10 = l ∙ ap (λ (k : Kind). 2 * block_count_of k) (one_kind u.kind TwoDmm e) in
         length-take-le 8 u.values (omega arith)
-    asked false e = h.time_long
+    time false e = h.time_long
 
-sound_settled : (k : Kind) (o : Outcome) (s : State) → IsSized o → Sound s → Sound (settled k o s)
+sound_settled : (k : Kind) (o : Outcome) (s : State) → IsSized o → Sound s → Sound (after_outcome k o s)
 sound_settled k Broken s p h = sound_held k None s tt h
 sound_settled k (Incomplete u) s p h = sound_held k (Some u) s p h
 sound_settled k Corrupt s p h = sound_held k None s tt h
-sound_settled k (Whole u) s p h = sound_kept u (held k None s) p (sound_held k None s tt h)
+sound_settled k (Whole u) s p h = sound_kept u (with_collection k None s) p (sound_held k None s tt h)
 
-sound_basic : (s : State) (b : MessageBlock) (t : Bool) → Sound s → Sound (cond t (kept (basic_content b) s) s)
+sound_basic : (s : State) (b : MessageBlock) (t : Bool) → Sound s → Sound (cond t (with_last_whole (basic_content b) s) s)
 sound_basic s b true h = sound_kept (basic_content b) s refl h
 sound_basic s b false h = h
 
@@ -176,10 +176,10 @@ sound_kind (Some k) s b h = go (same_kind k Basic)
 pub sound_after : (s : State) (b : MessageBlock) → Sound s → Sound (after s b)
 sound_after s b h = sound_kind b.kind s b h
 
-pub sound_unasked : (s : State) → Sound s → Sound (unasked s)
+pub sound_unasked : (s : State) → Sound s → Sound (with_no_question s)
 sound_unasked s h = record { places = h.places; aps_part = h.aps_part; low_part = h.low_part; last_full = h.last_full; time_long = tt }
 
-pub sound_run : (s : State) (cs : List Call) → Sound s → Sound (run s cs)
+pub sound_run : (s : State) (cs : List Call) → Sound s → Sound (state_after s cs)
 sound_run s [] h = h
-sound_run s (gave b ∷ cs) h = sound_run (after s b) cs (sound_after s b h)
-sound_run s (asked ∷ cs) h = sound_run (unasked s) cs (sound_unasked s h)
+sound_run s (give b ∷ cs) h = sound_run (after s b) cs (sound_after s b h)
+sound_run s (collect ∷ cs) h = sound_run (with_no_question s) cs (sound_unasked s h)

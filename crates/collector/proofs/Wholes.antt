@@ -10,10 +10,10 @@ use Rattle.bits.proofs.Places.{length_bits}
 use Rattle.message.specs.declared.Kind.{Kind}
 use Rattle.message.specs.declared.Kind.TheVariants.{Basic, TwoDmm}
 use Rattle.message.specs.declared.MessageBlock.{MessageBlock}
-use Rattle.message.specs.Kinds.{blocks_of}
-use Rattle.message.specs.Blocks.{said}
-use Rattle.message.specs.Values.{crc12, filled, lawful}
-use Rattle.message.specs.Written.{message_blocks, parts, reads}
+use Rattle.message.specs.Kinds.{block_count_of}
+use Rattle.message.specs.Blocks.{message_block_of}
+use Rattle.message.specs.Values.{crc12, filled_values, lawful}
+use Rattle.message.specs.Written.{message_blocks, message_parts, reads_of}
 use Rattle.message.proofs.Laws.{laws}
 use Rattle.message.proofs.Pairs.{paired_push, take_two}
 use Rattle.message.proofs.Writes.{lawful_length, some_blocks}
@@ -23,8 +23,8 @@ use Rattle.collector.specs.State.{State, Sound, last_of, place_of}
 use Rattle.collector.specs.declared.assembly.Outcome.{Outcome}
 use Rattle.collector.specs.declared.assembly.Outcome.TheVariants.{Broken, Corrupt, Whole}
 use Rattle.collector.specs.Outcomes.{continued_outcome, extended_outcome, marked_outcome, next_outcome, same_kind, tested_outcome, unfinished_of}
-use Rattle.collector.specs.Step.{after, after_kind, after_part, after_basic, found_of, is_aps, report_basic, report_kind, report_of, report_part, settled}
-use Rattle.collector.specs.Runs.{Call, gave, goes_kind, goes_to, own, run, Arrives, Completes}
+use Rattle.collector.specs.Step.{after, after_kind, after_part, after_basic, found_of, is_aps, report_basic, report_kind, report_of, report_part, after_outcome}
+use Rattle.collector.specs.Runs.{Call, give, goes_kind, goes_to, own, state_after, Arrives, Completes}
 use Rattle.collector.specs.Laws.{FoundWhole}
 use Rattle.collector.proofs.Sizes.{few_blocks}
 use Rattle.collector.proofs.Extends.{last_test}
@@ -34,50 +34,50 @@ use Rattle.collector.proofs.Sounds.{place_below, sound_run}
 
 -- the block at place i of a message
 abbrev pub part_at : Kind → ℕ → ℕ → ℕ → MessageBlock
-part_at k i a b = said k (eqb i 0) (eqb (i + 1) (blocks_of k)) a b
+part_at k i a b = message_block_of k (eqb i 0) (eqb (i + 1) (block_count_of k)) a b
 
 abbrev pub content : Kind → List ℕ → Content
 content k us = record { kind = k; values = us }
 
-pub parts_push : (k : Kind) (i : ℕ) (us : List ℕ) (a b : ℕ) → length us ≡ 2 * i → parts k (us ++ a ∷ b ∷ []) ≡ parts k us ++ part_at k i a b ∷ []
+pub parts_push : (k : Kind) (i : ℕ) (us : List ℕ) (a b : ℕ) → length us ≡ 2 * i → message_parts k (us ++ a ∷ b ∷ []) ≡ message_parts k us ++ part_at k i a b ∷ []
 parts_push k i us a b h =
-    paired_push (part_at k) i 0 us a b h ∙ ap (λ (j : ℕ). parts k us ++ part_at k j a b ∷ []) (let e : 0 + i ≡ i = omega arith in e)
+    paired_push (part_at k) i 0 us a b h ∙ ap (λ (j : ℕ). message_parts k us ++ part_at k j a b ∷ []) (let e : 0 + i ≡ i = omega arith in e)
 
 -- a block joins what has come of its message
 joins : (k : Kind) (us : List ℕ) (c : Option Content) (t e : Bool) (a b : ℕ) → (t ≡ true → us ≡ []) → (t ≡ false → c ≡ Some (content k us))
-    → next_outcome k c (said k t e a b) ≡ extended_outcome (content k us) (said k t e a b)
-joins k us c true e a b p q = ap (λ (vs : List ℕ). extended_outcome (content k vs) (said k true e a b)) (sym (p refl))
+    → next_outcome k c (message_block_of k t e a b) ≡ extended_outcome (content k us) (message_block_of k t e a b)
+joins k us c true e a b p q = ap (λ (vs : List ℕ). extended_outcome (content k vs) (message_block_of k true e a b)) (sym (p refl))
 joins k us c false e a b p q =
-    ap (λ (x : Option Content). continued_outcome k x (said k false e a b)) (q refl)
-    ∙ ap (λ (t : Bool). cond t (extended_outcome (content k us) (said k false e a b)) Broken) (same_true k k refl)
+    ap (λ (x : Option Content). continued_outcome k x (message_block_of k false e a b)) (q refl)
+    ∙ ap (λ (t : Bool). cond t (extended_outcome (content k us) (message_block_of k false e a b)) Broken) (same_true k k refl)
 
 pub joined_part : (k : Kind) (i : ℕ) (us : List ℕ) (c : Option Content) (a b : ℕ) → length us ≡ 2 * i → (1 ≤ i → c ≡ Some (content k us))
-    → next_outcome k c (part_at k i a b) ≡ marked_outcome (content k (us ++ a ∷ b ∷ [])) (eqb (i + 1) (blocks_of k)) (eqb (i + 1) (blocks_of k))
+    → next_outcome k c (part_at k i a b) ≡ marked_outcome (content k (us ++ a ∷ b ∷ [])) (eqb (i + 1) (block_count_of k)) (eqb (i + 1) (block_count_of k))
 joined_part k i us c a b h q =
-    joins k us c (eqb i 0) (eqb (i + 1) (blocks_of k)) a b
+    joins k us c (eqb i 0) (eqb (i + 1) (block_count_of k)) a b
     (λ e. nil_from_length us (omega (arith, eqb-true i 0 e)))
     (λ e. q (omega (arith, eqb-false i 0 e)))
-    ∙ ap (marked_outcome (content k (us ++ a ∷ b ∷ [])) (eqb (i + 1) (blocks_of k))) (last_test us i (blocks_of k) a b h)
+    ∙ ap (marked_outcome (content k (us ++ a ∷ b ∷ [])) (eqb (i + 1) (block_count_of k))) (last_test us i (block_count_of k) a b h)
 
 pub part_advances : (g : Bool) (k : Kind) (i : ℕ) (us : List ℕ) (c : Option Content) (a b : ℕ) → goes_kind g (Some k) ≡ true → length us ≡ 2 * i
-    → (1 ≤ i → c ≡ Some (content k us)) → (i + 1 ≡ blocks_of k → ⊥) → advance g c (part_at k i a b) ≡ Some (content k (us ++ a ∷ b ∷ []))
+    → (1 ≤ i → c ≡ Some (content k us)) → (i + 1 ≡ block_count_of k → ⊥) → advance g c (part_at k i a b) ≡ Some (content k (us ++ a ∷ b ∷ []))
 part_advances g k i us c a b e h q l =
     ap (λ (t : Bool). cond t (unfinished_of (next_outcome k c (part_at k i a b))) c) e
     ∙ ap unfinished_of (joined_part k i us c a b h q
-    ∙ ap (λ (t : Bool). marked_outcome (content k (us ++ a ∷ b ∷ [])) t t) (ne_eqb (i + 1) (blocks_of k) l))
+    ∙ ap (λ (t : Bool). marked_outcome (content k (us ++ a ∷ b ∷ [])) t t) (ne_eqb (i + 1) (block_count_of k) l))
 
 -- before the last block, the collection holds what has come
 pub collected : (g : Bool) (k : Kind) (us : List ℕ) (c : Option Content) → goes_kind g (Some k) ≡ true
-    → (i : ℕ) → 2 * i ≤ length us → 1 ≤ i → i < blocks_of k → advances g c (parts k (take (2 * i) us)) ≡ Some (content k (take (2 * i) us))
+    → (i : ℕ) → 2 * i ≤ length us → 1 ≤ i → i < block_count_of k → advances g c (message_parts k (take (2 * i) us)) ≡ Some (content k (take (2 * i) us))
 collected g k us c e zero l lo hi = absurd (omega arith)
 collected g k us c e (suc j) l lo hi =
     let more : take (2 * suc j) us ≡ take (2 * j) us ++ get_or us (2 * j) 0 ∷ get_or us (2 * j + 1) 0 ∷ []
     = ap (λ (n : ℕ). take (2 * n) us) (let z : suc j ≡ j + 1 = omega arith in z) ∙ take_two us j (omega arith) in
     let len : length (take (2 * j) us) ≡ 2 * j = length-take-le (2 * j) us (omega arith) in
-    ap (λ (vs : List ℕ). advances g c (parts k vs)) more
+    ap (λ (vs : List ℕ). advances g c (message_parts k vs)) more
     ∙ ap (advances g c) (parts_push k j (take (2 * j) us) (get_or us (2 * j) 0) (get_or us (2 * j + 1) 0) len)
-    ∙ advances_append g c (parts k (take (2 * j) us)) (part_at k j (get_or us (2 * j) 0) (get_or us (2 * j + 1) 0) ∷ [])
-    ∙ part_advances g k j (take (2 * j) us) (advances g c (parts k (take (2 * j) us))) (get_or us (2 * j) 0) (get_or us (2 * j + 1) 0) e len
+    ∙ advances_append g c (message_parts k (take (2 * j) us)) (part_at k j (get_or us (2 * j) 0) (get_or us (2 * j + 1) 0) ∷ [])
+    ∙ part_advances g k j (take (2 * j) us) (advances g c (message_parts k (take (2 * j) us))) (get_or us (2 * j) 0) (get_or us (2 * j + 1) 0) e len
     (λ lo'. collected g k us c e j (omega arith) lo' (omega arith)) (omega arith)
     ∙ ap (λ (vs : List ℕ). Some (content k vs)) (sym more)
 
@@ -95,11 +95,11 @@ whole_part s b k us h e f o = (
       ∙ ap found_of o,
   ap (λ (x : Option Kind). last_of k (after_kind x s b)) e
       ∙ ap (λ (t : Bool). last_of k (cond t (after_basic s b) (after_part k s b))) f
-      ∙ ap (λ (x : Outcome). last_of k (settled k x s)) o
+      ∙ ap (λ (x : Outcome). last_of k (after_outcome k x s)) o
       ∙ get_or-set_same s.kept (place_of k) (Some (content k us)) None (omega (arith, place_below k, h.places)),
   λ d. ap (λ (x : Option Kind). (after_kind x s b).question) e
       ∙ ap (λ (t : Bool). (cond t (after_basic s b) (after_part k s b)).question) f
-      ∙ ap (λ (x : Outcome). (settled k x s).question) o
+      ∙ ap (λ (x : Outcome). (after_outcome k x s).question) o
       ∙ ap (λ (t : Bool). cond t (Some (take 8 us)) s.question) (same_true k TwoDmm d),
 )
 
@@ -109,47 +109,47 @@ pub record Tested (s : State) (b : MessageBlock) (k : Kind) (us : List ℕ) : Ty
   pub other : same_kind k Basic ≡ false
   pub next : next_outcome k (coll (is_aps k) s) b ≡ tested_outcome (content k us)
 
-pub arrived : (s : State) (before : List Call) (b : MessageBlock) (k : Kind) (us : List ℕ) → Arrives before b k us → Tested (run s before) b k us
+pub arrived : (s : State) (before : List Call) (b : MessageBlock) (k : Kind) (us : List ℕ) → Arrives before b k us → Tested (state_after s before) b k us
 arrived s before b k us h =
     let g : Bool = is_aps k in
     let front : List MessageBlock = h.front in
-    let len : length us ≡ 2 * blocks_of k = h.long in
-    let some : 1 ≤ blocks_of k = some_blocks k in
-    let m : ℕ = blocks_of k - 1 in
+    let len : length us ≡ 2 * block_count_of k = h.long in
+    let some : 1 ≤ block_count_of k = some_blocks k in
+    let m : ℕ = block_count_of k - 1 in
     let x : ℕ = get_or us (2 * m) 0 in
     let y : ℕ = get_or us (2 * m + 1) 0 in
     let us' : List ℕ = take (2 * m) us in
     let len' : length us' ≡ 2 * m = length-take-le (2 * m) us (omega arith) in
     let split : us ≡ us' ++ x ∷ y ∷ []
     = sym (take_all (2 * (m + 1)) us (omega arith)) ∙ take_two us m (omega arith) in
-    let ends : own g before ++ b ∷ [] ≡ (front ++ parts k us') ++ part_at k m x y ∷ []
-    = sym (own_push g before b true h.goes) ∙ h.is ∙ ap (λ (vs : List ℕ). front ++ parts k vs) split
+    let ends : own g before ++ b ∷ [] ≡ (front ++ message_parts k us') ++ part_at k m x y ∷ []
+    = sym (own_push g before b true h.goes) ∙ h.is ∙ ap (λ (vs : List ℕ). front ++ message_parts k vs) split
     ∙ ap (λ (l : List MessageBlock). front ++ l) (parts_push k m us' x y len')
-    ∙ sym (append_assoc front (parts k us') (part_at k m x y ∷ [])) in
-    let two = same_from_push (own g before) (front ++ parts k us') b (part_at k m x y) ends in
+    ∙ sym (append_assoc front (message_parts k us') (part_at k m x y ∷ [])) in
+    let two = same_from_push (own g before) (front ++ message_parts k us') b (part_at k m x y) ends in
     let is : b ≡ part_at k m x y = two.1 in
     let kind : b.kind ≡ Some k = ap (λ (z : MessageBlock). z.kind) is in
     let goes : goes_kind g (Some k) ≡ true = ap (goes_kind g) (sym kind) ∙ h.goes in
-    let c : Option Content = coll g (run s before) in
-    let there : c ≡ advances g (advances g (coll g s) front) (parts k us')
-    = coll_run g s before ∙ ap (advances g (coll g s)) two.0 ∙ advances_append g (coll g s) front (parts k us') in
+    let c : Option Content = coll g (state_after s before) in
+    let there : c ≡ advances g (advances g (coll g s) front) (message_parts k us')
+    = coll_run g s before ∙ ap (advances g (coll g s)) two.0 ∙ advances_append g (coll g s) front (message_parts k us') in
     record {
       kind = kind;
       other = not_basic g k goes;
       next = ap (next_outcome k c) is
           ∙ joined_part k m us' c x y len' (λ lo. there ∙ collected g k us (advances g (coll g s) front) goes m (omega arith) lo (omega arith))
-          ∙ ap (λ (t : Bool). marked_outcome (content k (us' ++ x ∷ y ∷ [])) t t) (eq-eqb (m + 1) (blocks_of k) (omega arith))
+          ∙ ap (λ (t : Bool). marked_outcome (content k (us' ++ x ∷ y ∷ [])) t t) (eq-eqb (m + 1) (block_count_of k) (omega arith))
           ∙ ap (λ (vs : List ℕ). tested_outcome (content k vs)) (sym split);
     }
 
 pub whole_found : (s : State) (before : List Call) (b : MessageBlock) (k : Kind) (us : List ℕ)
     → Sound s → Completes before b k us → FoundWhole s before b k us
 whole_found s before b k us sized h =
-    let T : Tested (run s before) b k us = arrived s before b k us h.0 in
-    let next : next_outcome k (coll (is_aps k) (run s before)) b ≡ Whole (content k us)
+    let T : Tested (state_after s before) b k us = arrived s before b k us h.0 in
+    let next : next_outcome k (coll (is_aps k) (state_after s before)) b ≡ Whole (content k us)
     = T.next ∙ ap (λ (t : Bool). cond t (Whole (content k us)) Corrupt) (eq-eqb (crc12 (bits us)) 0 h.1) in
-    let both = whole_part (run s before) b k us (sound_run s before sized) T.kind T.other next in
-    let at : run s (before ++ gave b ∷ []) ≡ after (run s before) b = run_append s before (gave b ∷ []) in
+    let both = whole_part (state_after s before) b k us (sound_run s before sized) T.kind T.other next in
+    let at : state_after s (before ++ give b ∷ []) ≡ after (state_after s before) b = run_append s before (give b ∷ []) in
     record {
       found = both.0;
       last = ap (last_of k) at ∙ both.1;
@@ -158,9 +158,9 @@ whole_found s before b k us sized h =
 
 -- a message whose blocks have come in a row and leave another remainder
 pub corrupt_found : (s : State) (before : List Call) (b : MessageBlock) (k : Kind) (ws : List ℕ)
-    → Arrives before b k ws → (crc12 (bits ws) ≡ 0 → ⊥) → (report_of (run s before) b).found ≡ Err WrongRemainder
+    → Arrives before b k ws → (crc12 (bits ws) ≡ 0 → ⊥) → (report_of (state_after s before) b).found ≡ Err WrongRemainder
 corrupt_found s before b k ws h bad =
-    let S : State = run s before in
+    let S : State = state_after s before in
     let T : Tested S b k ws = arrived s before b k ws h in
     ap (λ (x : Option Kind). (report_kind x S b).found) T.kind
     ∙ ap (λ (t : Bool). (cond t (report_basic b) (report_part k S b)).found) T.other
@@ -169,7 +169,7 @@ corrupt_found s before b k ws h bad =
 pub change_found : (s : State) (before : List Call) (b : MessageBlock) (k : Kind) (us ws : List ℕ)
     → Arrives before b k ws → length us ≡ length ws → crc12 (bits us) ≡ 0
     → 0 < weight (xors (bits us) (bits ws)) → weight (xors (bits us) (bits ws)) ≤ 3
-    → (report_of (run s before) b).found ≡ Err WrongRemainder
+    → (report_of (state_after s before) b).found ≡ Err WrongRemainder
 change_found s before b k us ws h l e lo hi =
     corrupt_found s before b k ws h
     (λ z.
@@ -179,17 +179,17 @@ change_found s before b k us ws h l e lo hi =
 
 pub written_found : (s : State) (before : List Call) (front : List MessageBlock) (b : MessageBlock) (k : Kind) (vs : List ℕ)
     → Sound s → lawful k vs ≡ true → goes_to (is_aps k) b ≡ true
-    → own (is_aps k) (before ++ gave b ∷ []) ≡ front ++ reads (message_blocks k (filled vs))
-    → FoundWhole s before b k (filled vs)
+    → own (is_aps k) (before ++ give b ∷ []) ≡ front ++ reads_of (message_blocks k (filled_values vs))
+    → FoundWhole s before b k (filled_values vs)
 written_found s before front b k vs sized law goes e =
-    let len : length vs ≡ 2 * blocks_of k = lawful_length k vs law in
+    let len : length vs ≡ 2 * block_count_of k = lawful_length k vs law in
     let two : 2 ≤ length vs = omega (arith, some_blocks k) in
-    whole_found s before b k (filled vs) sized (
+    whole_found s before b k (filled_values vs) sized (
       record {
         front = front;
         goes = goes;
-        is = e ∙ ap (λ (l : List MessageBlock). front ++ l) (laws.message_back k (filled vs));
-        long = laws.long vs two ∙ len;
+        is = e ∙ ap (λ (l : List MessageBlock). front ++ l) (laws.message_back k (filled_values vs));
+        long = laws.same_length vs two ∙ len;
       },
-      laws.leaves vs two,
+      laws.zero_remainder vs two,
     )

@@ -1,7 +1,7 @@
 -- A message, whole or in part, as a list of value bytes.
 use Rattle.std.specs.Prelude.{◌≡◌, ℕ, ◌-◌, ◌*◌, ◌<◌, List, ◌++◌, length, replicate}
 use Rattle.message.specs.declared.Kind.{Kind}
-use Rattle.message.specs.Kinds.{blocks_of}
+use Rattle.message.specs.Kinds.{block_count_of}
 
 -- a message, or the part of it that has come: its kind and its value bytes
 pub record Content : Type 0 where
@@ -11,7 +11,7 @@ pub record Content : Type 0 where
 -- fewer blocks have come than a message of its kind has, each with two value bytes
 pub record IsPart (u : Content) : Type 0 where
   pub blocks : ℕ
-  pub few : blocks < blocks_of u.kind
+  pub few : blocks < block_count_of u.kind
   pub long : length u.values ≡ 2 * blocks
 
 -- value bytes in the memory of the longest message: zeros stand behind them

@@ -3,7 +3,7 @@ use Rattle.std.specs.Prelude.{◌≡◌, ◌*◌, Bool, true, false, if◌then�
 use Rattle.bits.specs.Bits.{bits}
 use Rattle.message.specs.declared.Kind.{Kind}
 use Rattle.message.specs.declared.MessageBlock.{MessageBlock}
-use Rattle.message.specs.Kinds.{blocks_of, code_of}
+use Rattle.message.specs.Kinds.{block_count_of, code_of}
 use Rattle.message.specs.Values.{crc12}
 use Rattle.collector.specs.Content.{Content, IsPart}
 use Rattle.collector.specs.declared.assembly.Outcome.{Outcome}
@@ -41,7 +41,7 @@ with_block u b = record { kind = u.kind; values = u.values ++ b.first ∷ b.seco
 abbrev pub extended_outcome : Content → MessageBlock → Outcome
 extended_outcome u b =
     let more : Content = with_block u b in
-    marked_outcome more b.ends (length more.values == 2 * blocks_of u.kind)
+    marked_outcome more b.ends (length more.values == 2 * block_count_of u.kind)
 
 -- without a start mark, a block goes on with a message of its own kind
 abbrev pub continued_outcome : Kind → Option Content → MessageBlock → Outcome
@@ -57,4 +57,4 @@ abbrev pub IsSized : Outcome → Type 0
 IsSized Broken = Unit {0}
 IsSized (Incomplete u) = IsPart u
 IsSized Corrupt = Unit {0}
-IsSized (Whole u) = length u.values ≡ 2 * blocks_of u.kind
+IsSized (Whole u) = length u.values ≡ 2 * block_count_of u.kind

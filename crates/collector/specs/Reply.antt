@@ -4,7 +4,7 @@ use Rattle.message.specs.declared.Kind.TheVariants.{TwoDmr}
 use Rattle.message.specs.Values.{lawful}
 
 -- a question that has been handed out: when it was sent, and whether it has been answered or declined
-pub record Asked : Type 0 where
+pub record AskedQuestion : Type 0 where
   pub time : List ℕ
   pub settled : Bool
 

@@ -5,46 +5,46 @@ use Rattle.bits.specs.Bits.{bits}
 use Rattle.message.specs.declared.Kind.{Kind}
 use Rattle.message.specs.declared.Kind.TheVariants.{Basic, TwoDmm}
 use Rattle.message.specs.declared.MessageBlock.{MessageBlock}
-use Rattle.message.specs.Kinds.{blocks_of}
+use Rattle.message.specs.Kinds.{block_count_of}
 use Rattle.message.specs.Values.{crc12}
-use Rattle.message.specs.Written.{parts}
+use Rattle.message.specs.Written.{message_parts}
 use Rattle.collector.specs.declared.Report.{Report}
 use Rattle.collector.specs.Content.{Content}
 use Rattle.collector.specs.Outcomes.{same_kind}
 use Rattle.collector.specs.State.{State}
-use Rattle.collector.specs.Step.{after, is_aps, new_state, one_mark, report_of, same, unasked}
+use Rattle.collector.specs.Step.{after, is_aps, new_state, one_mark, report_of, same_bool, with_no_question}
 
 -- whether a block goes to the collection of protection messages (true) or to that of low priority ones (false);
 -- basic messages and unknown kinds go to neither
 abbrev pub goes_kind : Bool → Option Kind → Bool
 goes_kind aps None = false
-goes_kind aps (Some k) = not (same_kind k Basic) && same (is_aps k) aps
+goes_kind aps (Some k) = not (same_kind k Basic) && same_bool (is_aps k) aps
 
 abbrev pub goes_to : Bool → MessageBlock → Bool
 goes_to aps b = goes_kind aps b.kind
 
 -- the calls that change a collector: a block is given, or the question collected
 pub data Call : Type 0 where
-  gave : MessageBlock → Call
-  asked : Call
+  give : MessageBlock → Call
+  collect : Call
 
 -- the blocks that go to one collection, in their order
 abbrev pub own : Bool → List Call → List MessageBlock
 own aps [] = []
-own aps (gave b ∷ cs) = if goes_to aps b then b ∷ own aps cs else own aps cs
-own aps (asked ∷ cs) = own aps cs
+own aps (give b ∷ cs) = if goes_to aps b then b ∷ own aps cs else own aps cs
+own aps (collect ∷ cs) = own aps cs
 
 -- what a collector holds after some calls
-abbrev pub run : State → List Call → State
-run s [] = s
-run s (gave b ∷ cs) = run (after s b) cs
-run s (asked ∷ cs) = run (unasked s) cs
+abbrev pub state_after : State → List Call → State
+state_after s [] = s
+state_after s (give b ∷ cs) = state_after (after s b) cs
+state_after s (collect ∷ cs) = state_after (with_no_question s) cs
 
 -- what is reported of the blocks, in their order
 abbrev pub reports : State → List Call → List Report
 reports s [] = []
-reports s (gave b ∷ cs) = report_of s b ∷ reports (after s b) cs
-reports s (asked ∷ cs) = reports (unasked s) cs
+reports s (give b ∷ cs) = report_of s b ∷ reports (after s b) cs
+reports s (collect ∷ cs) = reports (with_no_question s) cs
 
 -- ---- messages that arrive
 
@@ -52,8 +52,8 @@ reports s (asked ∷ cs) = reports (unasked s) cs
 pub record Arrives (before : List Call) (b : MessageBlock) (k : Kind) (us : List ℕ) : Type 0 where
   pub front : List MessageBlock
   pub goes : goes_to (is_aps k) b ≡ true
-  pub is : own (is_aps k) (before ++ gave b ∷ []) ≡ front ++ parts k us
-  pub long : length us ≡ 2 * blocks_of k
+  pub is : own (is_aps k) (before ++ give b ∷ []) ≡ front ++ message_parts k us
+  pub long : length us ≡ 2 * block_count_of k
 
 -- And these leave the remainder 0.
 abbrev pub Completes : List Call → MessageBlock → Kind → List ℕ → Type 0
@@ -68,17 +68,17 @@ pub record ArrivesCorrupt (before : List Call) (b : MessageBlock) : Type 0 where
 
 -- b makes a message of kind k whole: a basic message is one block with exactly one mark
 pub data MakesWhole (before : List Call) (b : MessageBlock) (k : Kind) (us : List ℕ) : Type 0 where
-  basic : k ≡ Basic → b.kind ≡ Some Basic → one_mark b ≡ true → us ≡ b.first ∷ b.second ∷ [] → MakesWhole before b k us
-  collected : Completes before b k us → MakesWhole before b k us
+  by_basic : k ≡ Basic → b.kind ≡ Some Basic → one_mark b ≡ true → us ≡ b.first ∷ b.second ∷ [] → MakesWhole before b k us
+  by_blocks : Completes before b k us → MakesWhole before b k us
 
 -- Of a message of kind k the first blocks have come for a collection, with these values, and others are to come.
 pub record UnderWay (aps : Bool) (before : List Call) (k : Kind) (us : List ℕ) : Type 0 where
   pub front : List MessageBlock
-  pub is : own aps before ≡ front ++ parts k us
+  pub is : own aps before ≡ front ++ message_parts k us
   pub blocks : ℕ
   pub long : length us ≡ 2 * blocks
   pub some : 1 ≤ blocks
-  pub few : blocks < blocks_of k
+  pub few : blocks < block_count_of k
 
 abbrev pub NoneUnderWay : Bool → List Call → Type 0
 NoneUnderWay aps before = (k : Kind) (us : List ℕ) → ¬ UnderWay aps before k us
@@ -86,31 +86,31 @@ NoneUnderWay aps before = (k : Kind) (us : List ℕ) → ¬ UnderWay aps before 
 -- b, of kind k, follows what has come for its collection: it begins a message where none is under way, or goes on with the one of its kind
 -- that is, and it has the end mark exactly if it is the last block of its kind
 pub data Follows (before : List Call) (b : MessageBlock) (k : Kind) : Type 0 where
-  begins : b.starts ≡ true → NoneUnderWay (is_aps k) before → b.ends ≡ (1 == blocks_of k) → Follows before b k
-  continues : (us : List ℕ) (u : UnderWay (is_aps k) before k us) → b.starts ≡ false → b.ends ≡ (u.blocks + 1 == blocks_of k) → Follows before b k
+  begins : b.starts ≡ true → NoneUnderWay (is_aps k) before → b.ends ≡ (1 == block_count_of k) → Follows before b k
+  continues : (us : List ℕ) (u : UnderWay (is_aps k) before k us) → b.starts ≡ false → b.ends ≡ (u.blocks + 1 == block_count_of k) → Follows before b k
 
 -- ---- messages sent one behind the other
 
 -- the blocks of some messages
 abbrev pub row_of : List Content → List MessageBlock
 row_of [] = []
-row_of (m ∷ ms) = parts m.kind m.values ++ row_of ms
+row_of (m ∷ ms) = message_parts m.kind m.values ++ row_of ms
 
 -- a message has all its values, and they leave the remainder 0
 pub record Undamaged (m : Content) : Type 0 where
-  pub long : length m.values ≡ 2 * blocks_of m.kind
+  pub long : length m.values ≡ 2 * block_count_of m.kind
   pub remainder : crc12 (bits m.values) ≡ 0
 
 -- a block of a message that is collected, or a basic message with exactly one mark
-abbrev pub sound_kind : Option Kind → MessageBlock → Bool
-sound_kind None b = false
-sound_kind (Some k) b = if same_kind k Basic then one_mark b else true
+abbrev pub collected_or_basic : Option Kind → MessageBlock → Bool
+collected_or_basic None b = false
+collected_or_basic (Some k) b = if same_kind k Basic then one_mark b else true
 
 -- the blocks given, in their order
-abbrev pub given : List Call → List MessageBlock
-given [] = []
-given (gave b ∷ cs) = b ∷ given cs
-given (asked ∷ cs) = given cs
+abbrev pub blocks_given : List Call → List MessageBlock
+blocks_given [] = []
+blocks_given (give b ∷ cs) = b ∷ blocks_given cs
+blocks_given (collect ∷ cs) = blocks_given cs
 
 -- The blocks given are those of undamaged messages, of each collection in their order, with basic messages between them.
 pub record Woven (cs : List Call) (protection low : List Content) : Type 0 where
@@ -118,7 +118,7 @@ pub record Woven (cs : List Call) (protection low : List Content) : Type 0 where
   pub low_row : own false cs ≡ row_of low
   pub protection_undamaged : All Undamaged protection
   pub low_undamaged : All Undamaged low
-  pub kinds : All (λ b. sound_kind b.kind b ≡ true) (given cs)
+  pub kinds : All (λ b. collected_or_basic b.kind b ≡ true) (blocks_given cs)
 
 -- ---- the latest whole message
 
@@ -131,38 +131,38 @@ pub record LatestWhole (cs : List Call) (k : Kind) (m : Content) : Type 0 where
   pub before : List Call
   pub block : MessageBlock
   pub since : List Call
-  pub is : cs ≡ before ++ gave block ∷ since
+  pub is : cs ≡ before ++ give block ∷ since
   pub kind : m.kind ≡ k
   pub whole : MakesWhole before block k m.values
-  pub none_since : NoneWhole k (run new_state (before ++ gave block ∷ [])) since
+  pub none_since : NoneWhole k (state_after new_state (before ++ give block ∷ [])) since
 
 abbrev pub IsLatest : List Call → Kind → Option Content → Type 0
 IsLatest cs k None = NoneWhole k new_state cs
 IsLatest cs k (Some m) = LatestWhole cs k m
 
-abbrev pub never_asked : List Call → Bool
-never_asked [] = true
-never_asked (gave b ∷ cs) = never_asked cs
-never_asked (asked ∷ cs) = false
+abbrev pub never_collects : List Call → Bool
+never_collects [] = true
+never_collects (give b ∷ cs) = never_collects cs
+never_collects (collect ∷ cs) = false
 
 -- the last of some calls collects the question, or there is none
-pub data JustAsked : List Call → Type 0 where
-  no_call : JustAsked []
-  asked_last : (cs : List Call) → JustAsked (cs ++ asked ∷ [])
+pub data JustCollected : List Call → Type 0 where
+  no_call : JustCollected []
+  collect_last : (cs : List Call) → JustCollected (cs ++ collect ∷ [])
 
 -- no whole question has come since the question was last collected, or since the first call
 pub record NoQuestion (cs : List Call) : Type 0 where
   pub before : List Call
   pub since : List Call
   pub is : cs ≡ before ++ since
-  pub at : JustAsked before
-  pub none_since : NoneWhole TwoDmm (run new_state before) since
+  pub at : JustCollected before
+  pub none_since : NoneWhole TwoDmm (state_after new_state before) since
 
 -- the time of the latest whole question, which has not been collected since
 pub record Waiting (cs : List Call) (time : List ℕ) : Type 0 where
   pub values : List ℕ
   pub latest : LatestWhole cs TwoDmm (record { kind = TwoDmm; values = values })
-  pub unasked : never_asked latest.since ≡ true
+  pub unasked : never_collects latest.since ≡ true
   pub time_is : time ≡ take 8 values
 
 abbrev pub IsWaiting : List Call → Option (List ℕ) → Type 0

@@ -2,7 +2,7 @@
 use Rattle.std.specs.Prelude.{◌≡◌, ℕ, ◌*◌, List, length, None, Option, IfSome, slice_index_or}
 use Rattle.message.specs.declared.Kind.{Kind}
 use Rattle.message.specs.declared.Kind.TheVariants.{Basic, Aps, Cv, OneDm, TwoDmm, TwoDmr, Cs}
-use Rattle.message.specs.Kinds.{blocks_of}
+use Rattle.message.specs.Kinds.{block_count_of}
 use Rattle.collector.specs.Content.{Content, IsPart}
 
 -- the message that each collection has begun, if one; by kind, the message that came whole last; when the waiting question was sent
@@ -29,7 +29,7 @@ last_of k s = slice_index_or s.kept (place_of k) None
 -- all value bytes of a message of kind k
 pub record IsFull (k : Kind) (m : Content) : Type 0 where
   pub kind : m.kind ≡ k
-  pub long : length m.values ≡ 2 * blocks_of k
+  pub long : length m.values ≡ 2 * block_count_of k
 
 -- What holds of every collector.
 pub record Sound (s : State) : Type 0 where

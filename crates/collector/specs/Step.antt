@@ -12,9 +12,9 @@ use Rattle.collector.specs.declared.assembly.Outcome.TheVariants.{Broken, Incomp
 use Rattle.collector.specs.Outcomes.{next_outcome, same_kind}
 use Rattle.collector.specs.State.{State, place_of}
 
-abbrev pub same : Bool → Bool → Bool
-same true b = b
-same false b = not b
+abbrev pub same_bool : Bool → Bool → Bool
+same_bool true b = b
+same_bool false b = not b
 
 -- no block has come, and nothing is kept
 abbrev pub new_state : State
@@ -27,8 +27,8 @@ is_aps k = same_kind k Aps
 abbrev pub collection_of : Kind → State → Option Content
 collection_of k s = if is_aps k then s.aps else s.low
 
-abbrev pub held : Kind → Option Content → State → State
-held k c s = record {
+abbrev pub with_collection : Kind → Option Content → State → State
+with_collection k c s = record {
   aps = if is_aps k then c else s.aps;
   low = if is_aps k then s.low else c;
   kept = s.kept;
@@ -37,19 +37,19 @@ held k c s = record {
 
 -- A whole message replaces the one kept of its kind. Of a two-way delay message the time is kept as well, as the waiting question: only
 -- the newest is worth an answer, so a question that still waits is replaced.
-abbrev pub kept : Content → State → State
-kept u s = record {
+abbrev pub with_last_whole : Content → State → State
+with_last_whole u s = record {
   aps = s.aps;
   low = s.low;
   kept = slice_set s.kept (place_of u.kind) (Some u);
   question = if same_kind u.kind TwoDmm then Some (take 8 u.values) else s.question;
 }
 
-abbrev pub settled : Kind → Outcome → State → State
-settled k Broken s = held k None s
-settled k (Incomplete u) s = held k (Some u) s
-settled k Corrupt s = held k None s
-settled k (Whole u) s = kept u (held k None s)
+abbrev pub after_outcome : Kind → Outcome → State → State
+after_outcome k Broken s = with_collection k None s
+after_outcome k (Incomplete u) s = with_collection k (Some u) s
+after_outcome k Corrupt s = with_collection k None s
+after_outcome k (Whole u) s = with_last_whole u (with_collection k None s)
 
 -- the kind of the message that is whole, if one is, or the fault
 abbrev pub found_of : Outcome → Result (Option Kind) BlockError
@@ -66,7 +66,7 @@ is_broken (Whole u) = false
 
 -- a block of a kind that is collected
 abbrev pub after_part : Kind → State → MessageBlock → State
-after_part k s b = settled k (next_outcome k (collection_of k s) b) s
+after_part k s b = after_outcome k (next_outcome k (collection_of k s) b) s
 
 abbrev pub report_part : Kind → State → MessageBlock → Report
 report_part k s b =
@@ -75,13 +75,13 @@ report_part k s b =
 
 -- a basic message has exactly one mark, and disturbs no collection
 abbrev pub one_mark : MessageBlock → Bool
-one_mark b = not (same b.starts b.ends)
+one_mark b = not (same_bool b.starts b.ends)
 
 abbrev pub basic_content : MessageBlock → Content
 basic_content b = record { kind = Basic; values = b.first ∷ b.second ∷ [] }
 
 abbrev pub after_basic : State → MessageBlock → State
-after_basic s b = if one_mark b then kept (basic_content b) s else s
+after_basic s b = if one_mark b then with_last_whole (basic_content b) s else s
 
 abbrev pub report_basic : MessageBlock → Report
 report_basic b = if one_mark b then record { broken = false; found = Ok (Some Basic) } else record { broken = true; found = Ok None }
@@ -102,5 +102,5 @@ abbrev pub report_of : State → MessageBlock → Report
 report_of s b = report_kind b.kind s b
 
 -- once the question has been handed out, none waits
-abbrev pub unasked : State → State
-unasked s = record { aps = s.aps; low = s.low; kept = s.kept; question = None }
+abbrev pub with_no_question : State → State
+with_no_question s = record { aps = s.aps; low = s.low; kept = s.kept; question = None }

@@ -2,7 +2,7 @@
 //! The end mark must stand on the last block of the kind and on no other, and the whole message must leave the remainder 0.
 //! Main promise: `next` answers exactly what the definition `next_outcome` makes of the message so far and the block.
 ghost use Rattle.std.specs.Prelude.{◌≡◌, ◌*◌, [], ◌∷◌, IfSome, length, take};
-ghost use Rattle.message.specs.Kinds.{blocks_of};
+ghost use Rattle.message.specs.Kinds.{block_count_of};
 ghost use Rattle.message.specs.declared.Kind.TheVariants.{Basic, TwoDmm};
 ghost use Rattle.collector.specs.Content.{IsPart};
 ghost use Rattle.collector.specs.Outcomes.{IsSized, empty_message, extended_outcome, next_outcome, tested_outcome, unfinished_of};
@@ -23,14 +23,14 @@ pub(crate) struct Unfinished {
 
 impl Model for Unfinished {
     ghost use Rattle.std.specs.Prelude.{◌≡◌, ◌*◌, ◌/◌, ◌<◌, length, take};
-    ghost use Rattle.message.specs.Kinds.{blocks_of};
+    ghost use Rattle.message.specs.Kinds.{block_count_of};
     ghost use Rattle.collector.specs.Content.{Content, zero_padded};
 
     ghost Value = { Content };
 
     ghost view = { λ u. record { kind = u.kind; values = take (2 * u.blocks) u.values } };
 
-    ghost invariant = { λ u. (u.blocks < blocks_of u.kind) × (u.values ≡ zero_padded (take (2 * u.blocks) u.values)) × (length (take (2 * u.blocks) u.values) ≡ 2 * u.blocks) };
+    ghost invariant = { λ u. (u.blocks < block_count_of u.kind) × (u.values ≡ zero_padded (take (2 * u.blocks) u.values)) × (length (take (2 * u.blocks) u.values) ≡ 2 * u.blocks) };
 
     ghost inverse = { λ c. record { kind = c.kind; blocks = length c.values / 2; values = zero_padded c.values } };
 
@@ -51,14 +51,14 @@ pub struct Message {
 
 impl Model for Message {
     ghost use Rattle.std.specs.Prelude.{◌≡◌, ◌*◌, take};
-    ghost use Rattle.message.specs.Kinds.{blocks_of};
+    ghost use Rattle.message.specs.Kinds.{block_count_of};
     ghost use Rattle.collector.specs.Content.{Content, zero_padded};
 
     ghost Value = { Content };
 
-    ghost view = { λ m. record { kind = m.kind; values = take (2 * blocks_of m.kind) m.values } };
+    ghost view = { λ m. record { kind = m.kind; values = take (2 * block_count_of m.kind) m.values } };
 
-    ghost invariant = { λ m. m.values ≡ zero_padded (take (2 * blocks_of m.kind) m.values) };
+    ghost invariant = { λ m. m.values ≡ zero_padded (take (2 * block_count_of m.kind) m.values) };
 
     ghost inverse = { λ c. record { kind = c.kind; values = zero_padded c.values } };
 }
@@ -103,6 +103,7 @@ impl Unfinished {
     }
 
     // The message with one more block; the end mark must stand on its last block and on no other.
+    #[tactic(auto, using(crate::proofs::Extends::extending))]
     fn extend(self, block: MessageBlock) -> Outcome
         ensures outcome { result ≡ extended_outcome self block }
         ensures sized { IsSized result }
@@ -151,7 +152,7 @@ impl Message {
     /// Its value bytes, two for each block.
     pub fn values(&self) -> &[u8]
         ensures values { result.now ≡ self.now.values }
-        ensures two_a_block { length self.now.values ≡ 2 * blocks_of self.now.kind }
+        ensures two_a_block { length self.now.values ≡ 2 * block_count_of self.now.kind }
     {
         let count = 2 * self.kind.blocks();
         &self.values[0..count]

@@ -1,15 +1,15 @@
 //! Collects path messages from their blocks as they come, protection messages apart from the low priority ones.
 //! A block is reported as what it completes or breaks: a whole message, a wrong remainder (P1), an unknown kind (P2), a broken sequence (P3).
-//! Main promise: `take` does and reports exactly what the definitions `after` and `report_of` say, whose laws are in `Laws`.
+//! Main promise: `take` does and reports exactly what the definitions `after` and `report_of` say, whose laws are in `CollectorLaws`.
 #![tactic(auto)]
 
 ghost use Rattle.std.specs.Prelude.{◌≡◌, IfSome, IsFalse, Some, length};
 ghost use Rattle.std.specs.Option.{option_map};
-ghost use Rattle.collector.specs.Faults.{fault_from, fault_number, fault_text, faults_of};
-ghost use Rattle.collector.specs.Laws.{FaultLaws, LatestLaws, Laws};
+ghost use Rattle.collector.specs.Faults.{message_fault_of, message_fault_number, message_fault_text, report_faults};
+ghost use Rattle.collector.specs.Laws.{FaultLaws, LatestLaws, CollectorLaws};
 ghost use Rattle.collector.specs.Content.{IsPart};
 ghost use Rattle.collector.specs.State.{IsFull, Sound, last_of, place_of};
-ghost use Rattle.collector.specs.Step.{after, after_basic, after_part, collection_of, held, kept, new_state, report_basic, report_of, report_part, unasked};
+ghost use Rattle.collector.specs.Step.{after, after_basic, after_part, collection_of, with_collection, with_last_whole, new_state, report_basic, report_of, report_part, with_no_question};
 
 mod assembly;
 mod question;
@@ -23,7 +23,7 @@ use std::marker::Model;
 
 /// The faults of message blocks: P1, P2 and P3.
 #[derive(Clone, Copy, Debug, PartialEq, Eq)]
-pub enum Fault {
+pub enum MessageFault {
     /// P1: the bits of a message do not leave the remainder 0.
     Remainder,
     /// P2: no kind has the code of the block.
@@ -41,13 +41,13 @@ pub enum BlockError {
     UnknownCode,
 }
 
-impl From<BlockError> for Fault {
-    ghost from_gives = { λ error fault. fault ≡ fault_from error };
+impl From<BlockError> for MessageFault {
+    ghost from_gives = { λ error fault. fault ≡ message_fault_of error };
 
-    fn from(error: BlockError) -> Fault {
+    fn from(error: BlockError) -> MessageFault {
         match error {
-            BlockError::WrongRemainder => Fault::Remainder,
-            BlockError::UnknownCode => Fault::UnknownKind,
+            BlockError::WrongRemainder => MessageFault::Remainder,
+            BlockError::UnknownCode => MessageFault::UnknownKind,
         }
     }
 }
@@ -105,32 +105,32 @@ impl Report {
     }
 
     /// The faults of a block in the order in which they are listed.
-    pub fn faults(self) -> [Option<Fault>; 2]
-        ensures { result ≡ faults_of self }
+    pub fn faults(self) -> [Option<MessageFault>; 2]
+        ensures { result ≡ report_faults self }
     {
-        let first = self.broken.then_some(Fault::Sequence);
-        let second = self.found.err().map(Fault::from);
+        let first = self.broken.then_some(MessageFault::Sequence);
+        let second = self.found.err().map(MessageFault::from);
         [first, second]
     }
 }
 
-impl Fault {
-    // Not `From<Fault> for u8`, since a caller would not say which number it takes.
+impl MessageFault {
+    // Not `From<MessageFault> for u8`, since a caller would not say which number it takes.
     /// The number by which an operator knows the fault.
     pub fn number(self) -> u8
-        ensures { result ≡ fault_number self }
+        ensures { result ≡ message_fault_number self }
     {
         match self {
-            Fault::Remainder => 1,
-            Fault::UnknownKind => 2,
-            Fault::Sequence => 3,
+            MessageFault::Remainder => 1,
+            MessageFault::UnknownKind => 2,
+            MessageFault::Sequence => 3,
         }
     }
 }
 
 /// `P1`, `P2` or `P3`.
-impl fmt::Display for Fault {
-    ghost output = { λ fault. Some (fault_text fault) };
+impl fmt::Display for MessageFault {
+    ghost output = { λ fault. Some (message_fault_text fault) };
 
     fn fmt<W: fmt::Write>(&self, f: &mut fmt::Formatter<W>) -> fmt::Result {
         write!(f, "P{}", self.number())
@@ -142,7 +142,7 @@ impl Collector {
     pub fn new() -> Collector
         ensures state { result ≡ new_state }
         ensures sound { Sound result }
-        ensures laws { Laws }
+        ensures laws { CollectorLaws }
         ensures faults { FaultLaws }
         ensures latest { LatestLaws }
     {
@@ -184,7 +184,7 @@ impl Collector {
         ensures question { option_map (λ q. q.time) result ≡ self.old.question }
         ensures long { IfSome result (λ q. length q.time ≡ 8) }
         ensures open { IfSome result (λ q. IsFalse q.settled) }
-        ensures state { self.new ≡ unasked self.old }
+        ensures state { self.new ≡ with_no_question self.old }
         ensures sound { Sound self.old }
     {
         let time = self.question.take()?;
@@ -235,7 +235,7 @@ impl Collector {
 
     fn hold(&mut self, kind: Kind, unfinished: Option<Unfinished>)
         requires { IfSome unfinished IsPart }
-        ensures { self.new ≡ held kind unfinished self.old }
+        ensures { self.new ≡ with_collection kind unfinished self.old }
     {
         if kind == Kind::Aps {
             self.aps = unfinished;
@@ -247,7 +247,7 @@ impl Collector {
     // Keeps a whole message as the last of its kind; one of two-way delay waits as a question too.
     fn keep(&mut self, message: Message)
         requires { IsFull message.kind message }
-        ensures { self.new ≡ kept message self.old }
+        ensures { self.new ≡ with_last_whole message self.old }
     {
         let kind = message.kind();
         self.kept[place(kind)] = Some(message);

@@ -16,9 +16,9 @@ pub struct Question {
 }
 
 impl Model for Question {
-    ghost use Rattle.collector.specs.Reply.{Asked};
+    ghost use Rattle.collector.specs.Reply.{AskedQuestion};
 
-    ghost Value = { Asked };
+    ghost Value = { AskedQuestion };
 
     ghost view = { λ q. record { time = q.time; settled = q.settled } };
 }

@@ -5,7 +5,7 @@ use Rattle.std.specs.List.{position, position_or_len}
 use Rattle.std.proofs.lemmas.List.{drop_all, take_all}
 use Rattle.std.specs.Option.{option_copied}
 use Rattle.std.proofs.lemmas.Bool.{cond-false, eqb-true, ltb-false}
-use Rattle.form.specs.Cut.{cut_line, ended, longer, prefixed}
+use Rattle.form.specs.Cut.{cut_line, ended_text, longer_cut, text_with_byte}
 use Rattle.form.proofs.Words.{none_from}
 
 -- whether a byte is a newline
@@ -16,7 +16,7 @@ cond_none : {A : Type 0} (t : Bool) (x : A) → cond t (Some x) None ≡ None �
 cond_none true x e = absurd (none-some _ (sym e))
 cond_none false x e = refl
 
-cut_by : (b : Bool) (x m : ℕ) (xs : List ℕ) (cut : List ℕ × List ℕ) → cut ≡ (take (m + 1) xs, drop (m + 1) xs) → cond b (x ∷ [], xs) (longer x cut) ≡ (take (cond (not b) (1 + m) 0 + 1) (x ∷ xs), drop (cond (not b) (1 + m) 0 + 1) (x ∷ xs))
+cut_by : (b : Bool) (x m : ℕ) (xs : List ℕ) (cut : List ℕ × List ℕ) → cut ≡ (take (m + 1) xs, drop (m + 1) xs) → cond b (x ∷ [], xs) (longer_cut x cut) ≡ (take (cond (not b) (1 + m) 0 + 1) (x ∷ xs), drop (cond (not b) (1 + m) 0 + 1) (x ∷ xs))
 cut_by true x m xs cut e = refl
 cut_by false x m xs cut e = let more : 1 + m + 1 ≡ suc (m + 1) = omega arith in rw (more, e) refl
 
@@ -37,34 +37,34 @@ cut_none s e =
     let all : length s ≤ n = omega (arith, ltb-false (position_or_len newline s) (length s) past) in
     cut_place s ∙ ap (λ t. (t, drop n s)) (take_all n s all) ∙ ap (λ t. (s, t)) (drop_all n s all)
 
-prefixed_cond : (t : Bool) (x : ℕ) (xs : List ℕ) → prefixed x (cond t (Some xs) None) ≡ cond t (Some (x ∷ xs)) None
+prefixed_cond : (t : Bool) (x : ℕ) (xs : List ℕ) → text_with_byte x (cond t (Some xs) None) ≡ cond t (Some (x ∷ xs)) None
 prefixed_cond true x xs = refl
 prefixed_cond false x xs = refl
 
-pub ended_push : (xs : List ℕ) (z : ℕ) → ended (xs ++ (z ∷ [])) ≡ cond (eqb z 10) (Some xs) None
+pub ended_push : (xs : List ℕ) (z : ℕ) → ended_text (xs ++ (z ∷ [])) ≡ cond (eqb z 10) (Some xs) None
 ended_push [] z = refl
 ended_push (x ∷ []) z = prefixed_cond (eqb z 10) x []
-ended_push (x ∷ y ∷ xs) z = ap (prefixed x) (ended_push (y ∷ xs) z) ∙ prefixed_cond (eqb z 10) x (y ∷ xs)
+ended_push (x ∷ y ∷ xs) z = ap (text_with_byte x) (ended_push (y ∷ xs) z) ∙ prefixed_cond (eqb z 10) x (y ∷ xs)
 
-prefixed_some : (x : ℕ) (o : Option (List ℕ)) (ys : List ℕ) → prefixed x o ≡ Some ys → (zs : List ℕ) × (o ≡ Some zs) × (ys ≡ x ∷ zs)
+prefixed_some : (x : ℕ) (o : Option (List ℕ)) (ys : List ℕ) → text_with_byte x o ≡ Some ys → (zs : List ℕ) × (o ≡ Some zs) × (ys ≡ x ∷ zs)
 prefixed_some x None ys e = absurd (none-some _ e)
 prefixed_some x (Some zs) ys e = (zs, refl, cc)
 
-pub ended_is : (xs ys : List ℕ) → ended xs ≡ Some ys → xs ≡ ys ++ (10 ∷ [])
+pub ended_is : (xs ys : List ℕ) → ended_text xs ≡ Some ys → xs ≡ ys ++ (10 ∷ [])
 ended_is [] ys e = absurd (none-some _ e)
 ended_is (x ∷ []) ys e =
     let h = cond_some (eqb x 10) [] ys e in
     ap (λ z. z ∷ []) (eqb-true x 10 h.0) ∙ ap (λ t. t ++ (10 ∷ [])) h.1
 ended_is (x ∷ y ∷ zs) ys e =
-    let h = prefixed_some x (ended (y ∷ zs)) ys e in
+    let h = prefixed_some x (ended_text (y ∷ zs)) ys e in
     ap (λ t. x ∷ t) (ended_is (y ∷ zs) h.0 h.1) ∙ ap (λ t. t ++ (10 ∷ [])) (sym h.2)
 
 -- `ended` is what `strip_suffix` takes the newline off
-pub stripped : (s : List ℕ) (r : Option (Bor (List ℕ))) → MatchOption r ((front : List ℕ) → s ≢ front ++ (10 ∷ [])) (λ x. s ≡ x.now ++ (10 ∷ [])) → option_copied r ≡ ended s
-stripped s None h = sym (none_from (ended s) (λ ys e. h ys (ended_is s ys e)))
-stripped s (Some x) h = sym (ap ended h ∙ ended_push x.now 10)
+pub stripped : (s : List ℕ) (r : Option (Bor (List ℕ))) → MatchOption r ((front : List ℕ) → s ≢ front ++ (10 ∷ [])) (λ x. s ≡ x.now ++ (10 ∷ [])) → option_copied r ≡ ended_text s
+stripped s None h = sym (none_from (ended_text s) (λ ys e. h ys (ended_is s ys e)))
+stripped s (Some x) h = sym (ap ended_text h ∙ ended_push x.now 10)
 
 -- a text that does not begin with a newline ends as what follows
-pub ended_more : (c : ℕ) (xs : List ℕ) → eqb c 10 ≡ false → ended (c ∷ xs) ≡ prefixed c (ended xs)
+pub ended_more : (c : ℕ) (xs : List ℕ) → eqb c 10 ≡ false → ended_text (c ∷ xs) ≡ text_with_byte c (ended_text xs)
 ended_more c [] e = cond-false (eqb c 10) (Some []) None e
 ended_more c (x ∷ xs) e = refl

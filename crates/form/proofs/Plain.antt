@@ -2,8 +2,8 @@
 use Rattle.std.proofs.Common.{◌≡◌, ℕ, ◌+◌, ◌/◌, ◌%◌, ◌<◌, Bool, true, false, cond, eqb, ltb, List, [], ◌∷◌, ◌++◌, is_some, codes, sym, refl, ap, ◌∙◌, ⊎_elim, arith}
 use Rattle.std.proofs.lemmas.Bool.{cond-true, cond-false, cond_both, cases_Bool}
 use Rattle.std.proofs.lemmas.Bool.Decides.{eqb_tells, nat_tests}
-use Rattle.form.specs.Lease.{Group, Lease, decimal, group_text, groups_text, lease_text, ShortGroups, Writable}
-use Rattle.form.specs.Marks.{LineOf, before, lines, mark_of, marked}
+use Rattle.form.specs.Lease.{Group, Lease, short_decimal, group_text, groups_text, lease_text, ShortGroups, Writable}
+use Rattle.form.specs.Marks.{LineOf, lines_with_byte, lines, mark_of, all_marks}
 
 -- marks alone, and no newline
 abbrev plain_byte : ℕ → Bool
@@ -29,7 +29,7 @@ plain_digit d h = grind (arith, nat_tests)
 one_digit : (d : ℕ) (xs : List ℕ) → d < 10 → plain xs ≡ true → plain ((48 + d) ∷ xs) ≡ true
 one_digit d xs h p = cond-true (plain_byte (48 + d)) (plain xs) false (plain_digit d h) ∙ p
 
-plain_decimal : (n : ℕ) → n < 1000 → plain (decimal n) ≡ true
+plain_decimal : (n : ℕ) → n < 1000 → plain (short_decimal n) ≡ true
 plain_decimal n h =
     cond_both (ltb n 10) ((48 + n) ∷ []) (cond (ltb n 100) ((48 + n / 10) ∷ (48 + n % 10) ∷ []) ((48 + n / 100) ∷ (48 + n / 10 % 10) ∷ (48 + n % 10) ∷ [])) (λ t. plain t ≡ true)
     (λ e. one_digit n [] (grind (arith, nat_tests)) refl)
@@ -39,10 +39,10 @@ plain_decimal n h =
 
 plain_group : (g : Group) → g.first < 1000 → g.last < 1000 → plain (group_text g) ≡ true
 plain_group g a b =
-    plain_join (codes " (slots ") (decimal g.first ++ (codes " " ++ (decimal g.last ++ codes ")"))) refl
-    (plain_join (decimal g.first) (codes " " ++ (decimal g.last ++ codes ")")) (plain_decimal g.first a)
-    (plain_join (codes " ") (decimal g.last ++ codes ")") refl
-    (plain_join (decimal g.last) (codes ")") (plain_decimal g.last b) refl)))
+    plain_join (codes " (slots ") (short_decimal g.first ++ (codes " " ++ (short_decimal g.last ++ codes ")"))) refl
+    (plain_join (short_decimal g.first) (codes " " ++ (short_decimal g.last ++ codes ")")) (plain_decimal g.first a)
+    (plain_join (codes " ") (short_decimal g.last ++ codes ")") refl
+    (plain_join (short_decimal g.last) (codes ")") (plain_decimal g.last b) refl)))
 
 plain_groups : (gs : List Group) → ShortGroups gs → plain (groups_text gs) ≡ true
 plain_groups [] h = refl
@@ -50,8 +50,8 @@ plain_groups (g ∷ gs) h = plain_join (group_text g) (groups_text gs) (plain_gr
 
 pub plain_lease : (l : Lease) → Writable l → plain (lease_text l) ≡ true
 plain_lease l w =
-    plain_join (codes "(client ") (decimal l.client ++ (groups_text l.groups ++ codes ")")) refl
-    (plain_join (decimal l.client) (groups_text l.groups ++ codes ")") (plain_decimal l.client w.0)
+    plain_join (codes "(client ") (short_decimal l.client ++ (groups_text l.groups ++ codes ")")) refl
+    (plain_join (short_decimal l.client) (groups_text l.groups ++ codes ")") (plain_decimal l.client w.0)
     (plain_join (groups_text l.groups) (codes ")") (plain_groups l.groups w.2) refl))
 
 plain_byte_marked : (c : ℕ) → plain_byte c ≡ true → (eqb c 10 ≡ false) × (is_some (mark_of c) ≡ true)
@@ -61,12 +61,12 @@ plain_byte_marked c e =
     (λ t. (t, sym (cond-false (eqb c 10) false (is_some (mark_of c)) t) ∙ e))
     (cases_Bool (eqb c 10))
 
-pub plain_marked : (xs : List ℕ) → plain xs ≡ true → marked xs ≡ true
+pub plain_marked : (xs : List ℕ) → plain xs ≡ true → all_marks xs ≡ true
 plain_marked [] e = refl
 plain_marked (x ∷ xs) e =
     let h = both (plain_byte x) (plain xs) e in
     let b = plain_byte_marked x h.0 in
-    cond-true (is_some (mark_of x)) (marked xs) false b.1 ∙ plain_marked xs h.1
+    cond-true (is_some (mark_of x)) (all_marks xs) false b.1 ∙ plain_marked xs h.1
 
 -- a text without newline, ended by one, is a line
 pub plain_line : (xs rest : List ℕ) → plain xs ≡ true → lines (xs ++ (10 ∷ rest)) ≡ record { text = xs; ended = true } ∷ lines rest
@@ -74,15 +74,15 @@ plain_line [] rest e = refl
 plain_line (x ∷ xs) rest e =
     let h = both (plain_byte x) (plain xs) e in
     let b = plain_byte_marked x h.0 in
-    cond-false (eqb x 10) (record { text = []; ended = true } ∷ lines (xs ++ (10 ∷ rest))) (before x (lines (xs ++ (10 ∷ rest)))) b.0
-    ∙ ap (before x) (plain_line xs rest h.1)
+    cond-false (eqb x 10) (record { text = []; ended = true } ∷ lines (xs ++ (10 ∷ rest))) (lines_with_byte x (lines (xs ++ (10 ∷ rest)))) b.0
+    ∙ ap (lines_with_byte x) (plain_line xs rest h.1)
 
 -- lines joined again
 abbrev pub rejoined : List LineOf → List ℕ
 rejoined [] = []
 rejoined (l ∷ ls) = l.text ++ cond l.ended (10 ∷ rejoined ls) (rejoined ls)
 
-before_rejoined : (c : ℕ) (ls : List LineOf) → rejoined (before c ls) ≡ c ∷ rejoined ls
+before_rejoined : (c : ℕ) (ls : List LineOf) → rejoined (lines_with_byte c ls) ≡ c ∷ rejoined ls
 before_rejoined c [] = refl
 before_rejoined c (l ∷ ls) = refl
 
@@ -90,6 +90,6 @@ pub lines_rejoined : (xs : List ℕ) → rejoined (lines xs) ≡ xs
 lines_rejoined [] = refl
 lines_rejoined (c ∷ cs) =
     ⊎_elim
-    (λ t. ap rejoined (cond-true (eqb c 10) (record { text = []; ended = true } ∷ lines cs) (before c (lines cs)) t.0) ∙ ap (λ x. 10 ∷ x) (lines_rejoined cs) ∙ ap (λ x. x ∷ cs) (sym t.1))
-    (λ t. ap rejoined (cond-false (eqb c 10) (record { text = []; ended = true } ∷ lines cs) (before c (lines cs)) t.0) ∙ before_rejoined c (lines cs) ∙ ap (λ x. c ∷ x) (lines_rejoined cs))
+    (λ t. ap rejoined (cond-true (eqb c 10) (record { text = []; ended = true } ∷ lines cs) (lines_with_byte c (lines cs)) t.0) ∙ ap (λ x. 10 ∷ x) (lines_rejoined cs) ∙ ap (λ x. x ∷ cs) (sym t.1))
+    (λ t. ap rejoined (cond-false (eqb c 10) (record { text = []; ended = true } ∷ lines cs) (lines_with_byte c (lines cs)) t.0) ∙ before_rejoined c (lines cs) ∙ ap (λ x. c ∷ x) (lines_rejoined cs))
     (eqb_tells c 10)

@@ -9,45 +9,45 @@ bind None f = None
 bind (Some x) f = f x
 
 -- what follows a word, if the text begins with it
-abbrev pub after : List ℕ → List ℕ → Option (List ℕ)
-after [] xs = Some xs
-after (w ∷ ws) [] = None
-after (w ∷ ws) (x ∷ xs) = if w == x then after ws xs else None
+abbrev pub rest_after : List ℕ → List ℕ → Option (List ℕ)
+rest_after [] xs = Some xs
+rest_after (w ∷ ws) [] = None
+rest_after (w ∷ ws) (x ∷ xs) = if w == x then rest_after ws xs else None
 
 -- the digit that a text begins with, and what follows it
-abbrev pub leading : List ℕ → Option (ℕ × List ℕ)
-leading [] = None
-leading (x ∷ xs) = if digit x then Some (x - 48, xs) else None
+abbrev pub first_digit : List ℕ → Option (ℕ × List ℕ)
+first_digit [] = None
+first_digit (x ∷ xs) = if digit x then Some (x - 48, xs) else None
 
 -- a number with one more digit, if one follows it
-abbrev pub longer : ℕ × List ℕ → Option (ℕ × List ℕ) → ℕ × List ℕ
-longer n None = n
-longer n (Some d) = (10 * n.0 + d.0, d.1)
+abbrev pub longer_number : ℕ × List ℕ → Option (ℕ × List ℕ) → ℕ × List ℕ
+longer_number n None = n
+longer_number n (Some d) = (10 * n.0 + d.0, d.1)
 
-abbrev pub extended : ℕ × List ℕ → ℕ × List ℕ
-extended n = longer n (leading n.1)
+abbrev pub extended_number : ℕ × List ℕ → ℕ × List ℕ
+extended_number n = longer_number n (first_digit n.1)
 
 -- a number of one to three digits with no needless zero, and what follows it
 abbrev pub number : List ℕ → Option (ℕ × List ℕ)
-number xs = bind (leading xs) λ d. Some (if d.0 == 0 then d else extended (extended d))
+number xs = bind (first_digit xs) λ d. Some (if d.0 == 0 then d else extended_number (extended_number d))
 
 -- a line's opening, up to the client's number
 abbrev pub opening : List ℕ → Option (ℕ × List ℕ)
-opening xs = bind (after (codes "(client ") xs) number
+opening xs = bind (rest_after (codes "(client ") xs) number
 
 -- a group of slots, and what follows it
 abbrev pub group : List ℕ → Option (Group × List ℕ)
 group xs =
-    bind (after (codes " (slots ") xs) λ a.
+    bind (rest_after (codes " (slots ") xs) λ a.
     bind (number a) λ first.
-    bind (after (codes " ") first.1) λ b.
+    bind (rest_after (codes " ") first.1) λ b.
     bind (number b) λ last.
-    bind (after (codes ")") last.1) λ rest.
+    bind (rest_after (codes ")") last.1) λ rest.
     Some (record { first = first.0; last = last.0 }, rest)
 
 -- the closing bracket, and nothing behind it
-abbrev pub closes : List ℕ → Bool
-closes xs = bytes_eq xs (codes ")")
+abbrev pub is_closing_bracket : List ℕ → Bool
+is_closing_bracket xs = bytes_eq xs (codes ")")
 
 abbrev pub put_before : Group → Option (List Group) → Option (List Group)
 put_before g None = None
@@ -56,7 +56,7 @@ put_before g (Some gs) = Some (g ∷ gs)
 -- one or more groups and the closing bracket, in at most k groups
 abbrev pub groups : ℕ → List ℕ → Option (List Group)
 groups zero xs = None
-groups (suc k) xs = bind (group xs) λ g. if closes g.1 then Some (g.0 ∷ []) else put_before g.0 (groups k g.1)
+groups (suc k) xs = bind (group xs) λ g. if is_closing_bracket g.1 then Some (g.0 ∷ []) else put_before g.0 (groups k g.1)
 
 -- the lease that a line without its newline writes; a text has no more groups than bytes
 abbrev pub form : List ℕ → Option Lease

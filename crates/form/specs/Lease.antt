@@ -12,14 +12,14 @@ pub record Lease : Type 0 where
   pub groups : List Group
 
 -- a number below 1,000 in decimal, with no needless zero
-abbrev pub decimal : ℕ → List ℕ
-decimal n =
+abbrev pub short_decimal : ℕ → List ℕ
+short_decimal n =
     if nat_lt n 10 then (48 + n) ∷ []
     else if nat_lt n 100 then (48 + n / 10) ∷ (48 + n % 10) ∷ []
     else (48 + n / 100) ∷ (48 + n / 10 % 10) ∷ (48 + n % 10) ∷ []
 
 abbrev pub group_text : Group → List ℕ
-group_text g = codes " (slots " ++ (decimal g.first ++ (codes " " ++ (decimal g.last ++ codes ")")))
+group_text g = codes " (slots " ++ (short_decimal g.first ++ (codes " " ++ (short_decimal g.last ++ codes ")")))
 
 abbrev pub groups_text : List Group → List ℕ
 groups_text [] = []
@@ -27,7 +27,7 @@ groups_text (g ∷ gs) = group_text g ++ groups_text gs
 
 -- a lease as a line, without its newline
 abbrev pub lease_text : Lease → List ℕ
-lease_text l = codes "(client " ++ (decimal l.client ++ (groups_text l.groups ++ codes ")"))
+lease_text l = codes "(client " ++ (short_decimal l.client ++ (groups_text l.groups ++ codes ")"))
 
 -- the numbers have at most three digits
 abbrev pub ShortGroups : List Group → Type 0

@@ -4,9 +4,9 @@
 #![tactic(auto)]
 
 ghost use Rattle.std.specs.Prelude.{◌≡◌, ◌+◌, ◌*◌, ◌<◌, ◌≤◌, ◌==◌, length, position, Some, None, is_ok, is_some, IfOk, IfSome, MatchOption};
-ghost use Rattle.form.specs.Cut.{cut_line, ended};
-ghost use Rattle.form.specs.Form.{after, leading, extended, number, opening, group, closes, FormExact};
-ghost use Rattle.form.specs.Marks.{first_line, mark_of, marked};
+ghost use Rattle.form.specs.Cut.{cut_line, ended_text};
+ghost use Rattle.form.specs.Form.{FormExact, extended_number, first_digit, group, is_closing_bracket, number, opening, rest_after};
+ghost use Rattle.form.specs.Marks.{all_marks, first_line, mark_of};
 ghost use Rattle.form.specs.Reads.{line_by, Reads};
 ghost use Rattle.std.specs.List.{list_all};
 ghost use Rattle.std.specs.Option.{option_copied};
@@ -23,14 +23,14 @@ pub struct FormError;
 
 /// Why a line is refused: the cause, and the level that found it.
 #[derive(Clone, Copy, Debug, PartialEq, Eq)]
-pub struct Fault {
+pub struct SheetFault {
     /// Why the line is refused.
     pub cause: Refusal,
     /// The level that found it.
     pub level: Level,
 }
 
-impl Fault {
+impl SheetFault {
     /// The refusal of the sheet whose line it is, counted from 1.
     pub fn at(self, line: usize) -> SheetRefusal
         ensures { result ≡ record { cause = self.cause; level = self.level; line = line } }
@@ -43,30 +43,30 @@ impl Fault {
     }
 }
 
-impl From<MarkError> for Fault {
+impl From<MarkError> for SheetFault {
     ghost use Rattle.std.specs.Prelude.{◌≡◌};
     ghost use Rattle.refusal.specs.declared.Refusal.TheVariants.{MarkNotAllowed};
     ghost use Rattle.refusal.specs.declared.Level.TheVariants.{Marks};
 
     ghost from_gives = { λ _ fault. fault ≡ record { cause = MarkNotAllowed; level = Marks } };
 
-    fn from(_error: MarkError) -> Fault {
-        Fault {
+    fn from(_error: MarkError) -> SheetFault {
+        SheetFault {
             cause: Refusal::MarkNotAllowed,
             level: Level::Marks,
         }
     }
 }
 
-impl From<FormError> for Fault {
+impl From<FormError> for SheetFault {
     ghost use Rattle.std.specs.Prelude.{◌≡◌};
     ghost use Rattle.refusal.specs.declared.Refusal.TheVariants.{FormBroken};
     ghost use Rattle.refusal.specs.declared.Level.TheVariants.{Forms};
 
     ghost from_gives = { λ _ fault. fault ≡ record { cause = FormBroken; level = Forms } };
 
-    fn from(error: FormError) -> Fault {
-        Fault {
+    fn from(error: FormError) -> SheetFault {
+        SheetFault {
             cause: Refusal::from(error),
             level: Level::Forms,
         }
@@ -150,7 +150,7 @@ pub fn cut_line(text: &[u8]) -> (&[u8], &[u8])
 
 /// A line's text without the newline that ends it, if one does.
 pub fn line_text(line: &[u8]) -> Option<&[u8]>
-    ensures { option_copied result ≡ ended line.now }
+    ensures { option_copied result ≡ ended_text line.now }
 {
     line.strip_suffix(b"\n")
 }
@@ -165,7 +165,7 @@ fn all_marks(line: &[u8]) -> bool
 /// The first line of what is left of a sheet, without its newline, and what follows the line; no line where no newline ends it.
 pub fn first_line(sheet: &[u8]) -> Result<(Option<&[u8]>, &[u8]), MarkError>
     ensures line { IfOk result (λ p. (line_by sheet.now (option_copied p.0), p.1.now) ≡ first_line sheet.now) }
-    ensures marks { is_ok result ≡ marked (first_line sheet.now).0.text }
+    ensures marks { is_ok result ≡ all_marks (first_line sheet.now).0.text }
 {
     let (line, rest) = cut_line(sheet);
     if all_marks(line) {
@@ -177,14 +177,14 @@ pub fn first_line(sheet: &[u8]) -> Result<(Option<&[u8]>, &[u8]), MarkError>
 
 /// What follows a word.
 pub fn word<'a>(text: &'a [u8], word: &[u8]) -> Result<&'a [u8], FormError>
-    ensures { Reads (λ rest. rest.now) result (after word.now text.now) }
+    ensures { Reads (λ rest. rest.now) result (rest_after word.now text.now) }
 {
     text.strip_prefix(word).ok_or(FormError)
 }
 
 // The decimal digit that the text begins with.
 fn digit(text: &[u8]) -> Option<(u16, &[u8])>
-    ensures { MatchOption result (leading text.now ≡ None) (λ p. (leading text.now ≡ Some (p.0, p.1.now)) × (p.0 < 10)) }
+    ensures { MatchOption result (first_digit text.now ≡ None) (λ p. (first_digit text.now ≡ Some (p.0, p.1.now)) × (p.0 < 10)) }
 {
     match text {
         [digit @ b'0'..=b'9', rest @ ..] => Some((u16::from(*digit - b'0'), rest)),
@@ -195,7 +195,7 @@ fn digit(text: &[u8]) -> Option<(u16, &[u8])>
 // A number with one more digit, if one follows it.
 fn extended(value: u16, text: &[u8]) -> (u16, &[u8])
     requires { value < 1000 }
-    ensures { ((result.0, result.1.now) ≡ extended (value, text.now)) × (result.0 < 10 * value + 10) }
+    ensures { ((result.0, result.1.now) ≡ extended_number (value, text.now)) × (result.0 < 10 * value + 10) }
 {
     match digit(text) {
         Some((digit, rest)) => (10 * value + digit, rest),
@@ -236,7 +236,7 @@ pub fn read_group(text: &[u8]) -> Result<(Group, &[u8]), FormError>
 
 /// Whether just the closing bracket is left.
 pub fn closes(text: &[u8]) -> bool
-    ensures { result ≡ closes text.now }
+    ensures { result ≡ is_closing_bracket text.now }
 {
     let bracket: &[u8] = b")";
     text == bracket

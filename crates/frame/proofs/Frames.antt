@@ -13,7 +13,7 @@ use Rattle.block.specs.Fixed.{start_block}
 use Rattle.bits.specs.Splices.{splice}
 use Rattle.std.proofs.Math.Seq.{take-add}
 use Rattle.bits.proofs.Splices.{splice_next}
-use Rattle.frame.specs.Frames.{FrameRestored, Shaped, carried_by, frame_block, frame_of, stored, stored_from}
+use Rattle.frame.specs.Frames.{FrameRestored, Shaped, carried_by, frame_block, frame_of, carried_after, carried_after_all}
 use Rattle.frame.proofs.Carried.{frame_data}
 use Rattle.frame.proofs.Storing.{stored_data}
 
@@ -76,12 +76,12 @@ frame_carries F =
 -- data blocks stored one after the other
 stored_run : (bs : List Block) (n : ℕ) (F : List ℕ) → 2 ≤ n → n + length bs ≤ 992 → 8 * (n - 2) ≤ length F →
     ((j : ℕ) → j < length bs → length (get_or bs j start_block).bytes ≡ 8) → (rest : List Block) →
-    stored_from n (bs ++ rest) F ≡ stored_from (n + length bs) rest (splice (8 * (n - 2)) (flat_map (λ (b : Block). b.bytes) bs) F)
+    carried_after_all n (bs ++ rest) F ≡ carried_after_all (n + length bs) rest (splice (8 * (n - 2)) (flat_map (λ (b : Block). b.bytes) bs) F)
 stored_run [] n F h k m f rest =
     let e : n ≡ n + 0 = omega arith in
     let z : 8 * (n - 2) + 0 ≡ 8 * (n - 2) = omega arith in
-    ap (λ (i : ℕ). stored_from i rest F) e
-    ∙ ap (λ (l : List ℕ). stored_from (n + 0) rest l) (sym (ap (λ (i : ℕ). take (8 * (n - 2)) F ++ drop i F) z ∙ take-append-drop (8 * (n - 2)) F))
+    ap (λ (i : ℕ). carried_after_all i rest F) e
+    ∙ ap (λ (l : List ℕ). carried_after_all (n + 0) rest l) (sym (ap (λ (i : ℕ). take (8 * (n - 2)) F ++ drop i F) z ∙ take-append-drop (8 * (n - 2)) F))
 stored_run (b ∷ bs) n F h k m f rest =
     let J : List ℕ = flat_map (λ (b : Block). b.bytes) bs in
     let w : length b.bytes ≡ 8 = f 0 (omega arith) in
@@ -91,10 +91,10 @@ stored_run (b ∷ bs) n F h k m f rest =
     let room : 8 * (n + 1 - 2) ≤ length G = simp (length-append, length-take-le (8 * (n - 2)) F m, w) (omega arith) in
     let e : n + 1 + length bs ≡ n + suc (length bs) = omega arith in
     let t : 8 * (n + 1 - 2) ≡ 8 * (n - 2) + length b.bytes = omega arith in
-    ap (λ (l : List ℕ). stored_from (n + 1) (bs ++ rest) l) (stored_data n b.bytes F (λ e. omega arith) (λ e. omega arith))
+    ap (λ (l : List ℕ). carried_after_all (n + 1) (bs ++ rest) l) (stored_data n b.bytes F (λ e. omega arith) (λ e. omega arith))
     ∙ stored_run bs (n + 1) G (omega arith) (omega arith) room (λ j l. f (suc j) (omega arith)) rest
-    ∙ ap (λ (i : ℕ). stored_from i rest (splice (8 * (n + 1 - 2)) J G)) e
-    ∙ ap (λ (l : List ℕ). stored_from (n + suc (length bs)) rest l) (splice_next s (8 * (n + 1 - 2)) b.bytes J F m t)
+    ∙ ap (λ (i : ℕ). carried_after_all i rest (splice (8 * (n + 1 - 2)) J G)) e
+    ∙ ap (λ (l : List ℕ). carried_after_all (n + suc (length bs)) rest l) (splice_next s (8 * (n + 1 - 2)) b.bytes J F m t)
 
 length_joined : (bs : List Block) → ((j : ℕ) → j < length bs → length (get_or bs j start_block).bytes ≡ 8) →
     length (flat_map (λ (b : Block). b.bytes) bs) ≡ 8 * length bs
@@ -104,7 +104,7 @@ length_joined (b ∷ bs) f = length-append b.bytes (flat_map (λ (b : Block). b.
 
 -- 992 blocks of eight bytes, stored one after the other, leave what they carry
 pub stored_carried : (bs : List Block) (F : List ℕ) → length bs ≡ 992 → length F ≡ 7927 →
-    ((j : ℕ) → j < 992 → length (get_or bs j start_block).bytes ≡ 8) → stored_from 1 bs F ≡ carried_by bs
+    ((j : ℕ) → j < 992 → length (get_or bs j start_block).bytes ≡ 8) → carried_after_all 1 bs F ≡ carried_by bs
 stored_carried [] F h k f = absurd (omega arith)
 stored_carried (b ∷ bs) F h k f =
     let n : length bs ≡ 991 = omega arith in
@@ -124,9 +124,9 @@ stored_carried (b ∷ bs) F h k f =
     let whole : length (J ++ drop 1 e.bytes) ≡ 7927 = length-append J (drop 1 e.bytes) ∙ omega arith in
     let z : 0 + length (J ++ drop 1 e.bytes) ≡ 7927 = omega arith in
     let i : 2 + length (take 990 bs) ≡ 992 = omega arith in
-    ap (λ (l : List Block). stored_from 2 l F) parts
+    ap (λ (l : List Block). carried_after_all 2 l F) parts
     ∙ stored_run ds 2 F (omega arith) (omega arith) (omega arith) eight (e ∷ [])
-    ∙ ap (λ (n : ℕ). stored_from n (e ∷ []) (splice 0 J F)) i
+    ∙ ap (λ (n : ℕ). carried_after_all n (e ∷ []) (splice 0 J F)) i
     ∙ splice_next 0 7920 J (drop 1 e.bytes) F (omega arith) (omega arith)
     ∙ ap (λ (n : ℕ). (J ++ drop 1 e.bytes) ++ drop n F) z
     ∙ ap (λ (l : List ℕ). (J ++ drop 1 e.bytes) ++ l) (drop_all 7927 F (omega arith))
@@ -150,8 +150,8 @@ frame_restored F before h k = stored_carried (frame_of F) before (frame_length F
 
 -- one block more, while storing
 pub stored_more : (bs : List Block) (i : ℕ) (F : List ℕ) → i < length bs →
-    stored_from (i + 1) (drop i bs) F ≡ stored_from (i + 1 + 1) (drop (i + 1) bs) (stored (i + 1) (get_or bs i start_block).bytes F)
-stored_more bs i F h = ap (λ (l : List Block). stored_from (i + 1) l F) (drop_more bs i start_block h)
+    carried_after_all (i + 1) (drop i bs) F ≡ carried_after_all (i + 1 + 1) (drop (i + 1) bs) (carried_after (i + 1) (get_or bs i start_block).bytes F)
+stored_more bs i F h = ap (λ (l : List Block). carried_after_all (i + 1) l F) (drop_more bs i start_block h)
 
-pub stored_all : (bs : List Block) (i : ℕ) (F : List ℕ) → length bs ≤ i → stored_from (i + 1) (drop i bs) F ≡ F
-stored_all bs i F h = ap (λ (l : List Block). stored_from (i + 1) l F) (drop_all i bs h)
+pub stored_all : (bs : List Block) (i : ℕ) (F : List ℕ) → length bs ≤ i → carried_after_all (i + 1) (drop i bs) F ≡ F
+stored_all bs i F h = ap (λ (l : List Block). carried_after_all (i + 1) l F) (drop_all i bs h)

@@ -5,7 +5,7 @@ use Rattle.std.proofs.lemmas.List.{drop_all, drop_at, drop-drop, drop_more, set_
 use Rattle.std.proofs.lemmas.Bool.{cond-false, ne_eqb}
 use Rattle.bits.specs.Splices.{splice}
 use Rattle.std.proofs.Math.Seq.{take-add}
-use Rattle.frame.specs.Frames.{stored, with_data}
+use Rattle.frame.specs.Frames.{carried_after, with_data}
 use Rattle.frame.specs.Places.{is_data_place}
 use Rattle.frame.proofs.Carried.{listed, past}
 
@@ -42,7 +42,7 @@ past_stored o p new at k h e =
     ∙ ap (λ (l : List ℕ). take k (o ++ p) ++ (new ++ l)) (sym (past o p (k + length new) (at + length new) h (omega arith)))
 
 -- what a data block's place stores
-pub stored_data : (n : ℕ) (bs carried : List ℕ) → (n ≡ 1 → ⊥) → (n ≡ 992 → ⊥) → stored n bs carried ≡ splice (8 * (n - 2)) bs carried
+pub stored_data : (n : ℕ) (bs carried : List ℕ) → (n ≡ 1 → ⊥) → (n ≡ 992 → ⊥) → carried_after n bs carried ≡ splice (8 * (n - 2)) bs carried
 stored_data n bs carried a b =
     cond-false (eqb n 1) carried _ (ne_eqb n 1 a) ∙ cond-false (eqb n 992) _ (splice (8 * (n - 2)) bs carried) (ne_eqb n 992 b)
 

@@ -26,20 +26,20 @@ abbrev pub carried_by : List Block → List ℕ
 carried_by blocks = flat_map (λ (b : Block). b.bytes) (take 990 (drop 1 blocks)) ++ drop 1 (slice_index_or blocks 991 start_block).bytes
 
 -- the carried bytes, with those of the block at a place stored
-abbrev pub stored : ℕ → List ℕ → List ℕ → List ℕ
-stored n bytes carried =
+abbrev pub carried_after : ℕ → List ℕ → List ℕ → List ℕ
+carried_after n bytes carried =
     if n == 1 then carried
     else if n == 992 then splice 7920 (drop 1 bytes) carried
     else splice (8 * (n - 2)) bytes carried
 
 -- the carried bytes, with those of all blocks from a place on stored one after the other
-abbrev pub stored_from : ℕ → List Block → List ℕ → List ℕ
-stored_from n [] carried = carried
-stored_from n (b ∷ bs) carried = stored_from (n + 1) bs (stored n b.bytes carried)
+abbrev pub carried_after_all : ℕ → List Block → List ℕ → List ℕ
+carried_after_all n [] carried = carried
+carried_after_all n (b ∷ bs) carried = carried_after_all (n + 1) bs (carried_after n b.bytes carried)
 
 -- a frame's blocks, stored one after the other, leave what it was made of, whatever was there before
 abbrev pub FrameRestored : Type 0
-FrameRestored = (carried before : List ℕ) → length carried ≡ 7927 → length before ≡ 7927 → stored_from 1 (frame_of carried) before ≡ carried
+FrameRestored = (carried before : List ℕ) → length carried ≡ 7927 → length before ≡ 7927 → carried_after_all 1 (frame_of carried) before ≡ carried
 
 -- the carried bytes, with those of a data block stored, where the place is a data block's
 abbrev pub with_data : ℕ → List ℕ → List ℕ → List ℕ

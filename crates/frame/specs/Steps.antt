@@ -5,7 +5,7 @@ use Rattle.block.specs.declared.Block.{Block}
 use Rattle.block.specs.declared.Class.TheVariants.{Data, End}
 use Rattle.block.specs.Classes.{class_of}
 use Rattle.block.specs.Fixed.{start_block}
-use Rattle.frame.specs.Frames.{Shaped, carried_by, frame_block, frame_of, stored, stored_from}
+use Rattle.frame.specs.Frames.{Shaped, carried_by, frame_block, frame_of, carried_after, carried_after_all}
 
 -- behind n blocks the next one is that of place n + 1
 abbrev pub Leaves : Type 0
@@ -18,17 +18,17 @@ Opens = (carried : List ℕ) → take 1 (frame_of carried) ≡ start_block ∷ [
 -- with a data block stored behind n blocks, the frame is these n and that block
 abbrev pub Grows : Type 0
 Grows = (carried : List ℕ) (n : ℕ) (b : Block) → length carried ≡ 7927 → 1 ≤ n → n ≤ 990 → length b.bytes ≡ 8 → class_of b ≡ Data
-    → take (n + 1) (frame_of (stored (n + 1) b.bytes carried)) ≡ take n (frame_of carried) ++ (b ∷ [])
+    → take (n + 1) (frame_of (carried_after (n + 1) b.bytes carried)) ≡ take n (frame_of carried) ++ (b ∷ [])
 
 -- and so with the end behind 991 blocks
 abbrev pub Closes : Type 0
 Closes = (carried : List ℕ) (b : Block) → length carried ≡ 7927 → length b.bytes ≡ 8 → class_of b ≡ End 7
-    → frame_of (stored 992 b.bytes carried) ≡ take 991 (frame_of carried) ++ (b ∷ [])
+    → frame_of (carried_after 992 b.bytes carried) ≡ take 991 (frame_of carried) ++ (b ∷ [])
 
 -- any 992 blocks, stored one after the other over whatever was there, leave what they carry
 abbrev pub CarriedStored : Type 0
 CarriedStored = (blocks : List Block) (before : List ℕ) → length blocks ≡ 992 → All (λ b. length b.bytes ≡ 8) blocks → length before ≡ 7927
-    → stored_from 1 blocks before ≡ carried_by blocks
+    → carried_after_all 1 blocks before ≡ carried_by blocks
 
 -- a frame taken apart: the start block, the data blocks, the end
 pub record InParts (blocks : List Block) : Type 0 where

@@ -4,7 +4,7 @@
 #![tactic(auto)]
 
 ghost use Rattle.std.specs.Prelude.{◌≡◌, ◌+◌, ◌-◌, ◌*◌, ◌≤◌, ◌∷◌, ◌++◌, length, take, drop};
-ghost use Rattle.frame.specs.Frames.{FrameRestored, Shaped, carried_by, frame_block, frame_of, stored, with_data};
+ghost use Rattle.frame.specs.Frames.{FrameRestored, Shaped, carried_by, frame_block, frame_of, carried_after, with_data};
 ghost use Rattle.frame.specs.Places.{IsPlace, is_data_place};
 ghost use Rattle.frame.specs.Steps.{ByBlocks};
 ghost use Rattle.frame.specs.SlotStarts.{SlotStarts, SlotsBeginThere, slot_start};
@@ -116,25 +116,25 @@ pub fn store_block(
     overhead: &mut OverheadBytes,
     payload: &mut Payload,
 )
-    ensures kept { overhead.new ++ payload.new ≡ stored place block.now.bytes (overhead.old ++ payload.old) }
+    ensures kept { overhead.new ++ payload.new ≡ carried_after place block.now.bytes (overhead.old ++ payload.old) }
     ensures eight { length block.now.bytes ≡ 8 }
     ensures long { (length overhead.new ≡ 7) × (length payload.new ≡ 7920) }
     ensures range { IsPlace place }
     ensures restored { FrameRestored }
 {
     let n = place.position();
-    if store_data(block, n, overhead, payload) {
+    let bytes = block.bytes;
+    if 2 <= n && n < 992 {
+        put_data(bytes, n, overhead, payload);
         return;
     }
     if n == 992 {
-        let bytes = block.bytes;
         store(&bytes[1..8], payload, 7913);
     }
 }
 
 /// Stores the eight bytes of a data block, and leaves all other bytes; answers whether the place, 2 to 991, is a data block's, and where it is
 /// not leaves all.
-#[tactic(auto, using(crate::proofs::Storing::past_stored))]
 pub fn store_data(
     block: &Block,
     place: usize,
@@ -146,16 +146,13 @@ pub fn store_data(
     ensures eight { length block.now.bytes ≡ 8 }
     ensures long { (length overhead.new ≡ 7) × (length payload.new ≡ 7920) }
 {
-    // A copy, which is known to lie apart from the payload: with the caller's bytes each store first asks whether the two overlap.
     let bytes = block.bytes;
-    if 2 < place && place < 992 {
-        store(&bytes, payload, 8 * place - 23);
-        return true;
+    if 2 <= place && place < 992 {
+        put_data(bytes, place, overhead, payload);
+        true
+    } else {
+        false
     }
-    if place == 2 {
-        store_first(&bytes, overhead, payload);
-    }
-    place == 2
 }
 
 /// A frame is sent and stored block by block: the next block, the frame so far and a block more, and the parts of every frame.
@@ -181,6 +178,21 @@ pub fn take_apart(blocks: &[Block; 992], overhead: &mut OverheadBytes, payload: 
 {
     for (i, block) in blocks.iter().enumerate() {
         store_block(block, FramePlace::of_index(i), overhead, payload);
+    }
+}
+
+// Stores the eight bytes of the data block at a place: a copy, which is known to lie apart from the payload. With those of the caller's
+// block each store first asks whether the two overlap.
+#[tactic(auto, using(crate::proofs::Storing::past_stored))]
+fn put_data(bytes: [u8; 8], place: usize, overhead: &mut OverheadBytes, payload: &mut Payload)
+    requires { (2 ≤ place) × (place ≤ 991) }
+    ensures kept { overhead.new ++ payload.new ≡ splice (8 * (place - 2)) bytes (overhead.old ++ payload.old) }
+    ensures long { (length overhead.new ≡ 7) × (length payload.new ≡ 7920) }
+{
+    if 2 < place {
+        store(&bytes, payload, 8 * place - 23);
+    } else {
+        store_first(&bytes, overhead, payload);
     }
 }
 

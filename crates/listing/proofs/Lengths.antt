@@ -9,16 +9,16 @@ use Rattle.calendar.proofs.Shares.{count_le, share_law}
 use Rattle.calendar.specs.Share.{first_slot, slot_count}
 use Rattle.refusal.specs.declared.Refusal.{Refusal}
 use Rattle.refusal.specs.Numbers.{number_of}
-use Rattle.listing.specs.Lines.{client_line, line_of, listing_of, refused_line}
+use Rattle.listing.specs.Lines.{client_line, client_count_line, listing_of, refused_line}
 
 pub length_line :
     (client count first : ℕ) →
-    length (line_of client count first) ≡ length (decimal client) + length (decimal count) + length (decimal first) + 3
+    length (client_count_line client count first) ≡ length (decimal client) + length (decimal count) + length (decimal first) + 3
 length_line client count first = simp length-append (omega arith)
 
 -- three numbers of at most three digits
 pub short_line :
-    (client count first : ℕ) → client ≤ 480 → count ≤ 480 → first ≤ 480 → length (line_of client count first) ≤ 12
+    (client count first : ℕ) → client ≤ 480 → count ≤ 480 → first ≤ 480 → length (client_count_line client count first) ≤ 12
 short_line client count first a b c =
     omega (
       arith,
@@ -37,7 +37,7 @@ first_le c es =
 
 short_client : (es : List ℕ) (c : ℕ) → length es ≡ 480 → c ≤ 480 → length (client_line es c) ≤ 12
 short_client es c full high =
-    let line = line_of c (slot_count c es) (first_slot c es) in
+    let line = client_count_line c (slot_count c es) (first_slot c es) in
     elim (cases_Bool (eqb (slot_count c es) 0)) [
       | inl t ↦ omega (arith, ap length (cond-true (eqb (slot_count c es) 0) [] line t))
       | inr f ↦

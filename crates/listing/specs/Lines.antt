@@ -9,12 +9,12 @@ use Rattle.numbers.specs.Walk.{numbers_between}
 use Rattle.calendar.specs.Share.{slot_count, first_slot}
 
 -- client, slot count and first slot, with single blanks, and a newline
-abbrev pub line_of : ℕ → ℕ → ℕ → List ℕ
-line_of client count first = decimal client ++ (codes " " ++ (decimal count ++ (codes " " ++ (decimal first ++ codes "\n"))))
+abbrev pub client_count_line : ℕ → ℕ → ℕ → List ℕ
+client_count_line client count first = decimal client ++ (codes " " ++ (decimal count ++ (codes " " ++ (decimal first ++ codes "\n"))))
 
 -- a client's line; none if it has no slot
 abbrev pub client_line : List ℕ → ℕ → List ℕ
-client_line es c = if slot_count c es == 0 then [] else line_of c (slot_count c es) (first_slot c es)
+client_line es c = if slot_count c es == 0 then [] else client_count_line c (slot_count c es) (first_slot c es)
 
 -- the lines of all clients, by rising client
 abbrev pub listing_of : List ℕ → List ℕ

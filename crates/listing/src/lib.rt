@@ -5,7 +5,7 @@
 
 ghost use Rattle.std.specs.Prelude.{◌≡◌, ◌≤◌};
 ghost use Rattle.calendar.specs.Entries.{entries_of};
-ghost use Rattle.listing.specs.Lines.{PlainDecimals, client_line, line_of, listing_of, refused_line};
+ghost use Rattle.listing.specs.Lines.{PlainDecimals, client_count_line, client_line, listing_of, refused_line};
 ghost use Rattle.listing.specs.Sample.{Samples};
 ghost use Rattle.text_out.specs.Wrote.{Writes, Wrote};
 
@@ -22,7 +22,7 @@ pub const REFUSAL_LEN: usize = 8 + 3 + 6 + 20 + 1;
 
 // Writes a line of the listing.
 fn put_line(text: &mut TextOut<'_>, client: ClientNumber, count: u16, first: u16)
-    ensures { Writes text.old text.new (line_of client count first) }
+    ensures { Writes text.old text.new (client_count_line client count first) }
 {
     text.put_number(usize::from(client.number()), b" ");
     text.put_number(usize::from(count), b" ");

@@ -1,20 +1,20 @@
 -- Value bytes two by two.
 use Rattle.std.proofs.Common.{◌≡◌, ℕ, zero, suc, ◌+◌, ◌*◌, ◌<◌, List, [], ◌∷◌, ◌++◌, length, get_or, take, drop, set, sym, refl, ap, ◌∙◌, append_assoc, arith}
 use Rattle.std.proofs.lemmas.List.{take_more, drop_more, set_at, get_or-drop, drop-drop}
-use Rattle.message.specs.Values.{paired}
+use Rattle.message.specs.Values.{map_pairs}
 
 -- two more bytes make one more entry
 pub paired_push : {X : Type 0} (f : ℕ → ℕ → ℕ → X) (i j : ℕ) (us : List ℕ) (a b : ℕ) → length us ≡ 2 * i
-    → paired f j (us ++ a ∷ b ∷ []) ≡ paired f j us ++ f (j + i) a b ∷ []
+    → map_pairs f j (us ++ a ∷ b ∷ []) ≡ map_pairs f j us ++ f (j + i) a b ∷ []
 paired_push f zero j [] a b h = ap (λ (m : ℕ). f m a b ∷ []) (let e : j ≡ j + 0 = omega arith in e)
 paired_push f (suc i) j [] a b h = absurd (omega arith)
 paired_push f i j (u ∷ []) a b h = absurd (omega arith)
 paired_push f zero j (u ∷ v ∷ us) a b h = absurd (omega arith)
 paired_push {X} f (suc i) j (u ∷ v ∷ us) a b h =
     ap (λ (l : List X). f j u v ∷ l)
-    (paired_push f i (suc j) us a b (omega arith) ∙ ap (λ (m : ℕ). paired f (suc j) us ++ f m a b ∷ []) (let e : suc j + i ≡ j + suc i = omega arith in e))
+    (paired_push f i (suc j) us a b (omega arith) ∙ ap (λ (m : ℕ). map_pairs f (suc j) us ++ f m a b ∷ []) (let e : suc j + i ≡ j + suc i = omega arith in e))
 
-pub length_paired : {X : Type 0} (f : ℕ → ℕ → ℕ → X) (i j : ℕ) (us : List ℕ) → length us ≡ 2 * i → length (paired f j us) ≡ i
+pub length_paired : {X : Type 0} (f : ℕ → ℕ → ℕ → X) (i j : ℕ) (us : List ℕ) → length us ≡ 2 * i → length (map_pairs f j us) ≡ i
 length_paired f zero j [] h = refl
 length_paired f (suc i) j [] h = absurd (omega arith)
 length_paired f i j (u ∷ []) h = absurd (omega arith)
@@ -31,12 +31,12 @@ take_two vs i h =
 
 -- one more entry written behind those that are there
 pub put_pair : {X : Type 0} (f : ℕ → ℕ → ℕ → X) (i : ℕ) (us : List ℕ) (a b : ℕ) (out : List X) (x : X) → length us ≡ 2 * i → i < length out → x ≡ f i a b
-    → set (paired f 0 us ++ drop i out) i x ≡ paired f 0 (us ++ a ∷ b ∷ []) ++ drop (i + 1) out
+    → set (map_pairs f 0 us ++ drop i out) i x ≡ map_pairs f 0 (us ++ a ∷ b ∷ []) ++ drop (i + 1) out
 put_pair {X} f i us a b out x h l e =
-    ap (λ (rest : List X). set (paired f 0 us ++ rest) i x) (drop_more out i x l)
-    ∙ set_at (paired f 0 us) (get_or out i x) (drop (i + 1) out) x i (length_paired f i 0 us h)
-    ∙ ap (λ (y : X). paired f 0 us ++ y ∷ drop (i + 1) out) (e ∙ ap (λ (m : ℕ). f m a b) (let z : i ≡ 0 + i = omega arith in z))
-    ∙ sym (append_assoc (paired f 0 us) (f (0 + i) a b ∷ []) (drop (i + 1) out))
+    ap (λ (rest : List X). set (map_pairs f 0 us ++ rest) i x) (drop_more out i x l)
+    ∙ set_at (map_pairs f 0 us) (get_or out i x) (drop (i + 1) out) x i (length_paired f i 0 us h)
+    ∙ ap (λ (y : X). map_pairs f 0 us ++ y ∷ drop (i + 1) out) (e ∙ ap (λ (m : ℕ). f m a b) (let z : i ≡ 0 + i = omega arith in z))
+    ∙ sym (append_assoc (map_pairs f 0 us) (f (0 + i) a b ∷ []) (drop (i + 1) out))
     ∙ ap (λ (front : List X). front ++ drop (i + 1) out) (sym (paired_push f i 0 us a b h))
 
 -- two bytes from the front of what is left of a list, and what is left behind them

@@ -8,7 +8,7 @@ use Rattle.bits.proofs.Digits.{low_reversed, length_high}
 use Rattle.bits.proofs.Parts.{bits_append, drop_bits, take_bits}
 use Rattle.bits.proofs.Places.{numbered, length_low}
 use Rattle.bits.proofs.Words.{bits_low, low_append, num}
-use Rattle.message.specs.Values.{covered, crc12, filled}
+use Rattle.message.specs.Values.{covered_value_bits, crc12, filled_values}
 
 -- digits turned round, in two parts
 onto_split : (j k n a : ℕ) → reverse_bits_onto (j + k) n a ≡ reverse_bits_onto k (n / 2 ^ j) (reverse_bits_onto j n a)
@@ -66,10 +66,10 @@ four_at vs h =
     ∙ first_four (get_or vs (n - 2) 0) (drop (n - 2 + 1) vs)
 
 -- what the code puts in place of the last two bytes
-pub last_filled : (vs : List ℕ) (r w x : ℕ) (tail : List ℕ) → 2 ≤ length vs → x ≡ get_or vs (length vs - 2) 0 → x < 16 → r < 4096 → r ≡ crc12 (covered vs)
+pub last_filled : (vs : List ℕ) (r w x : ℕ) (tail : List ℕ) → 2 ≤ length vs → x ≡ get_or vs (length vs - 2) 0 → x < 16 → r < 4096 → r ≡ crc12 (covered_value_bits vs)
     → w < 65536 → w ≡ reverse_bits_onto 16 r 0 → tail ≡ (w + x) % 256 ∷ (w + x) / 256 % 256 ∷ []
-    → take (length vs - 2) vs ++ tail ≡ filled vs
-unfolding filled
+    → take (length vs - 2) vs ++ tail ≡ filled_values vs
+unfolding filled_values
 last_filled vs r w x tail h ex hx hr er hw ew et =
     ap (λ (l : List ℕ). take (length vs - 2) vs ++ l)
     (et ∙ sym (numbered.packs ((w + x) % 256 ∷ (w + x) / 256 % 256 ∷ []) bytes)
@@ -83,13 +83,13 @@ last_filled vs r w x tail h ex hx hr er hw ew et =
     bytes (suc (suc i)) l = absurd (omega arith)
 
 -- ---- filled values: the bits that were given, and the remainder
-pub filled_bits : (vs : List ℕ) → 2 ≤ length vs → bits (filled vs) ≡ covered vs ++ high_first 12 (crc12 (covered vs))
-unfolding filled
+pub filled_bits : (vs : List ℕ) → 2 ≤ length vs → bits (filled_values vs) ≡ covered_value_bits vs ++ high_first 12 (crc12 (covered_value_bits vs))
+unfolding filled_values
 filled_bits vs h =
     let n : ℕ = length vs in
     let four : List Bool = field vs (8 * n - 16) (8 * n - 12) in
-    let tail : List Bool = high_first 12 (crc12 (covered vs)) in
-    let len : length (four ++ tail) ≡ 8 * 2 = length-append four tail ∙ ap₂ (λ (a b : ℕ). a + b) (ap length (four_at vs h) ∙ length_low 4 (get_or vs (n - 2) 0)) (length_high 12 (crc12 (covered vs))) in
+    let tail : List Bool = high_first 12 (crc12 (covered_value_bits vs)) in
+    let len : length (four ++ tail) ≡ 8 * 2 = length-append four tail ∙ ap₂ (λ (a b : ℕ). a + b) (ap length (four_at vs h) ∙ length_low 4 (get_or vs (n - 2) 0)) (length_high 12 (crc12 (covered_value_bits vs))) in
     bits_append (take (n - 2) vs) (packed_bytes 2 (four ++ tail))
     ∙ ap₂ (λ (xs ys : List Bool). xs ++ ys) (sym (take_bits (n - 2) vs)) (numbered.unpacks 2 (four ++ tail) len)
     ∙ sym (append_assoc (take (8 * (n - 2)) (bits vs)) four tail)

@@ -8,37 +8,37 @@ use Rattle.refusal.specs.declared.Refusal.TheVariants.{MessageInvalid, OutputToo
 use Rattle.block.specs.declared.Block.{Block}
 use Rattle.message.specs.declared.Kind.{Kind}
 use Rattle.message.specs.declared.Kind.TheVariants.{Basic, Aps, Cv, OneDm, TwoDmm, TwoDmr, Cs}
-use Rattle.message.specs.Kinds.{blocks_of}
+use Rattle.message.specs.Kinds.{block_count_of}
 use Rattle.message.specs.Blocks.{message_block}
-use Rattle.message.specs.Values.{filled, lawful}
-use Rattle.message.specs.Written.{answer, written, block_at, message_blocks}
+use Rattle.message.specs.Values.{filled_values, lawful}
+use Rattle.message.specs.Written.{message_answer, output_with_message, message_block_at, message_blocks}
 use Rattle.message.proofs.Pairs.{put_pair, take_two, front_pair}
 
 choice : Kind → List Block → Bool → Bool → Result ℕ Refusal
-choice k out x y = cond x (cond y (Ok (blocks_of k)) (Err OutputTooShort)) (Err MessageInvalid)
+choice k out x y = cond x (cond y (Ok (block_count_of k)) (Err OutputTooShort)) (Err MessageInvalid)
 
-pub answer_short : (k : Kind) (vs : List ℕ) (out : List Block) → lawful k vs ≡ true → length out < blocks_of k → Err OutputTooShort ≡ answer k vs out
+pub answer_short : (k : Kind) (vs : List ℕ) (out : List Block) → lawful k vs ≡ true → length out < block_count_of k → Err OutputTooShort ≡ message_answer k vs out
 unfolding choice
-answer_short k vs out e h = sym (ap₂ (choice k out) e (lt-leb (blocks_of k) (length out) h))
+answer_short k vs out e h = sym (ap₂ (choice k out) e (lt-leb (block_count_of k) (length out) h))
 
-pub answer_ok : (k : Kind) (vs : List ℕ) (out : List Block) → lawful k vs ≡ true → blocks_of k ≤ length out → Ok (blocks_of k) ≡ answer k vs out
+pub answer_ok : (k : Kind) (vs : List ℕ) (out : List Block) → lawful k vs ≡ true → block_count_of k ≤ length out → Ok (block_count_of k) ≡ message_answer k vs out
 unfolding choice
-answer_ok k vs out e h = sym (ap₂ (choice k out) e (le-leb (blocks_of k) (length out) h))
+answer_ok k vs out e h = sym (ap₂ (choice k out) e (le-leb (block_count_of k) (length out) h))
 
 result : Kind → List ℕ → List Block → Bool → Bool → List Block
-result k vs out x y = cond x (cond y (message_blocks k (filled vs) ++ drop (blocks_of k) out) out) out
+result k vs out x y = cond x (cond y (message_blocks k (filled_values vs) ++ drop (block_count_of k) out) out) out
 
-pub written_short : (k : Kind) (vs : List ℕ) (out : List Block) → lawful k vs ≡ true → length out < blocks_of k → out ≡ written k vs out
+pub written_short : (k : Kind) (vs : List ℕ) (out : List Block) → lawful k vs ≡ true → length out < block_count_of k → out ≡ output_with_message k vs out
 unfolding result
-written_short k vs out e h = sym (ap₂ (result k vs out) e (lt-leb (blocks_of k) (length out) h))
+written_short k vs out e h = sym (ap₂ (result k vs out) e (lt-leb (block_count_of k) (length out) h))
 
-pub written_ok : (k : Kind) (vs : List ℕ) (out : List Block) → lawful k vs ≡ true → blocks_of k ≤ length out
-    → message_blocks k (filled vs) ++ drop (blocks_of k) out ≡ written k vs out
+pub written_ok : (k : Kind) (vs : List ℕ) (out : List Block) → lawful k vs ≡ true → block_count_of k ≤ length out
+    → message_blocks k (filled_values vs) ++ drop (block_count_of k) out ≡ output_with_message k vs out
 unfolding result
-written_ok k vs out e h = sym (ap₂ (result k vs out) e (le-leb (blocks_of k) (length out) h))
+written_ok k vs out e h = sym (ap₂ (result k vs out) e (le-leb (block_count_of k) (length out) h))
 
 -- what lawful values are
-pub lawful_length : (k : Kind) (vs : List ℕ) → lawful k vs ≡ true → length vs ≡ 2 * blocks_of k
+pub lawful_length : (k : Kind) (vs : List ℕ) → lawful k vs ≡ true → length vs ≡ 2 * block_count_of k
 lawful_length Basic vs e = grind (arith, nat_tests)
 lawful_length Aps vs e = grind (arith, nat_tests)
 lawful_length Cv vs e = grind (arith, nat_tests)
@@ -47,7 +47,7 @@ lawful_length TwoDmm vs e = grind (arith, nat_tests)
 lawful_length TwoDmr vs e = grind (arith, nat_tests)
 lawful_length Cs vs e = grind (arith, nat_tests)
 
-pub some_blocks : (k : Kind) → 1 ≤ blocks_of k
+pub some_blocks : (k : Kind) → 1 ≤ block_count_of k
 some_blocks Basic = omega arith
 some_blocks Aps = omega arith
 some_blocks Cv = omega arith
@@ -64,7 +64,7 @@ end_at n h = grind (arith, nat_tests)
 
 -- one turn of the loop, for the next two of the value bytes that are left
 pub one_more : (k : Kind) (vs p t : List ℕ) (out₀ out : List Block) (i n m : ℕ) (b : Block)
-    → length vs ≡ 2 * blocks_of k → i < blocks_of k - 1 → blocks_of k ≤ length out₀
+    → length vs ≡ 2 * block_count_of k → i < block_count_of k - 1 → block_count_of k ≤ length out₀
     → out ≡ message_blocks k (take (2 * i) vs) ++ drop i out₀
     → drop (2 * i) vs ≡ p ++ t → length p ≡ 2 → n ≡ i → m ≡ i + 1
     → b ≡ message_block k (eqb n 0) false (get_or p 0 0) (get_or p 1 0)
@@ -73,11 +73,11 @@ one_more k vs p t out₀ out i n m b l h room inv left two at next e =
     let q = front_pair vs p t (2 * i) left two in
     let first : ℕ = get_or vs (2 * i) 0 in
     let second : ℕ = get_or vs (2 * i + 1) 0 in
-    let is : b ≡ block_at k i first second
+    let is : b ≡ message_block_at k i first second
     = e ∙ ap₂ (λ (x y : ℕ). message_block k (eqb n 0) false x y) q.0 q.1
-    ∙ ap₂ (λ (j : ℕ) (t : Bool). message_block k (eqb j 0) t first second) at (no_end i (blocks_of k) h) in (
+    ∙ ap₂ (λ (j : ℕ) (t : Bool). message_block k (eqb j 0) t first second) at (no_end i (block_count_of k) h) in (
       ap₂ (λ (o : List Block) (j : ℕ). set o j b) inv at
-          ∙ put_pair (block_at k) i (take (2 * i) vs) first second out₀ b (length-take-le (2 * i) vs (omega arith)) (omega arith) is
+          ∙ put_pair (message_block_at k) i (take (2 * i) vs) first second out₀ b (length-take-le (2 * i) vs (omega arith)) (omega arith) is
           ∙ ap (λ (us : List ℕ). message_blocks k us ++ drop (i + 1) out₀) (sym (take_two vs i (omega arith)))
           ∙ sym (ap (λ (j : ℕ). message_blocks k (take (2 * j) vs) ++ drop j out₀) next),
       q.2 ∙ ap (λ (j : ℕ). drop j vs) (let z : 2 * i + 2 ≡ 2 * m = omega arith in z),
@@ -92,19 +92,19 @@ all_but_last vs rest i (suc n) size last l r s e short =
     absurd (omega (arith, few, ap length r ∙ length-drop (2 * i) vs))
 
 -- the last block
-pub last_one : (k : Kind) (vs tail : List ℕ) (out₀ out : List Block) (i : ℕ) (b : Block) → length vs ≡ 2 * blocks_of k → i ≡ blocks_of k - 1 → blocks_of k ≤ length out₀
+pub last_one : (k : Kind) (vs tail : List ℕ) (out₀ out : List Block) (i : ℕ) (b : Block) → length vs ≡ 2 * block_count_of k → i ≡ block_count_of k - 1 → block_count_of k ≤ length out₀
     → out ≡ message_blocks k (take (2 * i) vs) ++ drop i out₀
-    → length tail ≡ 2 → take (length vs - 2) vs ++ tail ≡ filled vs
+    → length tail ≡ 2 → take (length vs - 2) vs ++ tail ≡ filled_values vs
     → b ≡ message_block k (eqb i 0) true (get_or tail 0 0) (get_or tail 1 0)
-    → set out i b ≡ message_blocks k (filled vs) ++ drop (blocks_of k) out₀
+    → set out i b ≡ message_blocks k (filled_values vs) ++ drop (block_count_of k) out₀
 last_one k vs [] out₀ out i b l h room inv two f e = absurd (omega arith)
 last_one k vs (x ∷ []) out₀ out i b l h room inv two f e = absurd (omega arith)
 last_one k vs (x ∷ y ∷ z ∷ tail) out₀ out i b l h room inv two f e = absurd (omega arith)
 last_one k vs (x ∷ y ∷ []) out₀ out i b l h room inv two f e =
-    let n : ℕ = blocks_of k in
+    let n : ℕ = block_count_of k in
     let some : 1 ≤ n = some_blocks k in
     ap (λ (o : List Block). set o i b) inv
-    ∙ put_pair (block_at k) i (take (2 * i) vs) x y out₀ b
+    ∙ put_pair (message_block_at k) i (take (2 * i) vs) x y out₀ b
     (length-take-le (2 * i) vs (omega arith)) (omega arith)
     (e ∙ ap (λ (t : Bool). message_block k (eqb i 0) t x y) (end_at n some ∙ ap (λ (j : ℕ). eqb (j + 1) n) (sym h)))
     ∙ ap₂ (λ (us : List ℕ) (m : ℕ). message_blocks k us ++ drop m out₀)

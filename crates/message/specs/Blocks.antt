@@ -23,8 +23,8 @@ message_block k starts ends first second =
     record { sync = Control; bytes = 0x4B ∷ head_of k starts ends ∷ first ∷ second ∷ 0x0C ∷ 0 ∷ 0 ∷ 0 ∷ [] }
 
 -- what the bytes of a control block say; the high half of byte 4 and the bytes behind it have no part in that
-abbrev pub bytes_say : List ℕ → Option MessageBlock
-bytes_say bytes =
+abbrev pub message_in_bytes : List ℕ → Option MessageBlock
+message_in_bytes bytes =
     let head : ℕ = slice_index_or bytes 1 0 in
     if slice_index bytes 0 == 0x4B && slice_index bytes 4 % 16 == 0x0C
     then Some (record {
@@ -38,8 +38,8 @@ bytes_say bytes =
 
 -- what a block says, if it is a message block
 abbrev pub read_of : Block → Option MessageBlock
-read_of b = elim b.sync [ Zeros ↦ None | Control ↦ bytes_say b.bytes | Data ↦ None | Ones ↦ None ]
+read_of b = elim b.sync [ Zeros ↦ None | Control ↦ message_in_bytes b.bytes | Data ↦ None | Ones ↦ None ]
 
 -- what a message block of a known kind is to say
-abbrev pub said : Kind → Bool → Bool → ℕ → ℕ → MessageBlock
-said k s e a b = record { kind = Some k; starts = s; ends = e; first = a; second = b }
+abbrev pub message_block_of : Kind → Bool → Bool → ℕ → ℕ → MessageBlock
+message_block_of k s e a b = record { kind = Some k; starts = s; ends = e; first = a; second = b }

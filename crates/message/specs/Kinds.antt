@@ -14,14 +14,14 @@ code_of TwoDmm = 0x39
 code_of TwoDmr = 0x30
 code_of Cs = 0x36
 
-abbrev pub blocks_of : Kind → ℕ
-blocks_of Basic = 1
-blocks_of Aps = 2
-blocks_of Cv = 17
-blocks_of OneDm = 5
-blocks_of TwoDmm = 5
-blocks_of TwoDmr = 13
-blocks_of Cs = 1
+abbrev pub block_count_of : Kind → ℕ
+block_count_of Basic = 1
+block_count_of Aps = 2
+block_count_of Cv = 17
+block_count_of OneDm = 5
+block_count_of TwoDmm = 5
+block_count_of TwoDmr = 13
+block_count_of Cs = 1
 
 -- as the standard writes it
 abbrev pub name_of : Kind → List ℕ
@@ -34,14 +34,14 @@ name_of TwoDmr = codes "2DMR"
 name_of Cs = codes "CS"
 
 -- the first of some kinds that has this code
-abbrev pub among : List Kind → ℕ → Option Kind
-among [] c = None
-among (k ∷ ks) c = if c == code_of k then Some k else among ks c
+abbrev pub first_with_code : List Kind → ℕ → Option Kind
+first_with_code [] c = None
+first_with_code (k ∷ ks) c = if c == code_of k then Some k else first_with_code ks c
 
 -- the kind that a code names, none if it is unknown
 abbrev pub kind_of : ℕ → Option Kind
-kind_of c = among (Basic ∷ Aps ∷ Cv ∷ OneDm ∷ TwoDmm ∷ TwoDmr ∷ Cs ∷ []) c
+kind_of c = first_with_code (Basic ∷ Aps ∷ Cv ∷ OneDm ∷ TwoDmm ∷ TwoDmr ∷ Cs ∷ []) c
 
 -- the same as a conversion
-abbrev pub decoded : ℕ → Result Kind UnknownKind
-decoded c = ok_or (kind_of c) (record { code = c })
+abbrev pub kind_or_unknown : ℕ → Result Kind UnknownKind
+kind_or_unknown c = ok_or (kind_of c) (record { code = c })

@@ -5,9 +5,9 @@
 
 ghost use Rattle.std.specs.Prelude.{◌≡◌, ◌-◌, ◌<◌, ◌≤◌, true, Some, ◌++◌, length, take, drop, slice_index};
 ghost use Rattle.message.specs.Blocks.{message_block, read_of};
-ghost use Rattle.message.specs.Kinds.{blocks_of, code_of, decoded, kind_of, name_of};
-ghost use Rattle.message.specs.Values.{filled, lawful};
-ghost use Rattle.message.specs.Written.{answer, answer_for, basic_block, message_blocks, written, written_for, Laws};
+ghost use Rattle.message.specs.Kinds.{block_count_of, code_of, kind_or_unknown, kind_of, name_of};
+ghost use Rattle.message.specs.Values.{filled_values, lawful};
+ghost use Rattle.message.specs.Written.{message_answer, message_answer_for, basic_block, message_blocks, output_with_message, output_with_message_for, MessageLaws};
 
 use block::{Block, Sync};
 use crc::Generator;
@@ -59,7 +59,7 @@ impl Kind {
 
     /// How many blocks a message of the kind has.
     pub fn blocks(self) -> usize
-        ensures { result ≡ blocks_of self }
+        ensures { result ≡ block_count_of self }
     {
         match self {
             Kind::Basic => 1,
@@ -91,7 +91,7 @@ impl Kind {
 impl TryFrom<u8> for Kind {
     type Error = UnknownKind;
 
-    ghost try_from_gives = { λ code r. r ≡ decoded code };
+    ghost try_from_gives = { λ code r. r ≡ kind_or_unknown code };
 
     fn try_from(code: u8) -> Result<Kind, UnknownKind> {
         match code {
@@ -198,9 +198,9 @@ pub fn basic(mark: Mark) -> Block
 /// with zeros in the twelve places of the remainder and in the four before them, of which CS uses the first two.
 /// Refused are values that are not lawful (10), and then an output with too few places (12); the output is then as before.
 pub fn write(kind: Kind, values: &[u8], output: &mut [Block]) -> Result<usize, Refusal>
-    ensures answer { result ≡ answer kind values.now output.old }
-    ensures output { output.new ≡ written kind values.now output.old }
-    ensures laws { Laws }
+    ensures answer { result ≡ message_answer kind values.now output.old }
+    ensures output { output.new ≡ output_with_message kind values.now output.old }
+    ensures laws { MessageLaws }
 {
     if !lawful(kind, values) {
         return Err(Refusal::MessageInvalid);
@@ -215,8 +215,8 @@ pub fn write(kind: Kind, values: &[u8], output: &mut [Block]) -> Result<usize, R
 
 /// The same for a code, for a caller that has only the byte; one that no kind has is refused with 10.
 pub fn write_code(code: u8, values: &[u8], output: &mut [Block]) -> Result<usize, Refusal>
-    ensures answer { result ≡ answer_for (kind_of code) values.now output.old }
-    ensures output { output.new ≡ written_for (kind_of code) values.now output.old }
+    ensures answer { result ≡ message_answer_for (kind_of code) values.now output.old }
+    ensures output { output.new ≡ output_with_message_for (kind_of code) values.now output.old }
 {
     write(Kind::try_from(code)?, values, output)
 }
@@ -236,8 +236,8 @@ pub fn lawful(kind: Kind, values: &[u8]) -> bool
 
 fn write_blocks(kind: Kind, values: &[u8], output: &mut [Block])
     requires lawful { lawful kind values.now ≡ true }
-    requires room { blocks_of kind ≤ length output.old }
-    ensures { output.new ≡ message_blocks kind (filled values.now) ++ drop (blocks_of kind) output.old }
+    requires room { block_count_of kind ≤ length output.old }
+    ensures { output.new ≡ message_blocks kind (filled_values values.now) ++ drop (block_count_of kind) output.old }
 {
     let last = kind.blocks() - 1;
     // by place: with a `zip` the first block would still be told from the others by its number
@@ -253,7 +253,7 @@ fn last_values(values: &[u8]) -> [u8; 2]
     requires two { 2 ≤ length values.now }
     requires most { length values.now ≤ 34 }
     requires free { slice_index values.now (length values.now - 2) < 16 }
-    ensures { take (length values.now - 2) values.now ++ result ≡ filled values.now }
+    ensures { take (length values.now - 2) values.now ++ result ≡ filled_values values.now }
 {
     let count = values.len();
     let remainder = Generator::degree_twelve().remainder(values, 0, 8 * count - 12);

@@ -11,16 +11,16 @@ slots = 480
 abbrev pub IsOneTo480 : ℕ → Type 0
 IsOneTo480 n = (1 ≤ n) × (n ≤ slots)
 
-abbrev pub in_range : ℕ → Bool
-in_range n = if nat_le 1 n then nat_le n slots else false
+abbrev pub is_one_to_480 : ℕ → Bool
+is_one_to_480 n = if nat_le 1 n then nat_le n slots else false
 
 -- what the conversion to a client or slot number answers
-abbrev pub checked : ℕ → Result ℕ Refusal
-checked n = if in_range n then Ok n else Err OutOfRange
+abbrev pub checked_number : ℕ → Result ℕ Refusal
+checked_number n = if is_one_to_480 n then Ok n else Err OutOfRange
 
 -- what the conversion to a frame number answers: frames are numbered from 0
-abbrev pub checked_frame : ℕ → Result ℕ Refusal
-checked_frame n = if nat_le slots n then Err OutOfRange else Ok n
+abbrev pub checked_frame_number : ℕ → Result ℕ Refusal
+checked_frame_number n = if nat_le slots n then Err OutOfRange else Ok n
 
 -- the client or slot number at a place, counted from 0
 abbrev pub number_at : ℕ → Option ℕ

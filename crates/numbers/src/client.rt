@@ -3,7 +3,7 @@
 ghost use Rattle.std.specs.Prelude.{◌≡◌, ◌+◌, ◌<◌, IfOk, IfSome, true};
 ghost use Rattle.std.specs.Iterator.{YieldsFirst, item_count};
 ghost use Rattle.numbers.specs.Entries.{checked_entry, entry_of, is_entry};
-ghost use Rattle.numbers.specs.Range.{IsOneTo480, checked, number_at, slots};
+ghost use Rattle.numbers.specs.Range.{IsOneTo480, checked_number, number_at, slots};
 ghost use Rattle.numbers.specs.Walk.{numbers_between};
 
 use crate::{LAST, SLOTS};
@@ -32,11 +32,11 @@ impl Model for ClientNumber {
 impl TryFrom<u16> for ClientNumber {
     type Error = Refusal;
 
-    ghost try_from_gives = { λ n r. r ≡ checked n };
+    ghost try_from_gives = { λ n r. r ≡ checked_number n };
 
     /// Refuses with `OutOfRange` what is no client number.
     fn try_from(number: u16) -> Result<ClientNumber, Refusal>
-        ensures value { result ≡ checked number }
+        ensures value { result ≡ checked_number number }
         ensures range { IfOk result IsOneTo480 }
     {
         match number {

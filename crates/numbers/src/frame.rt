@@ -1,7 +1,7 @@
 //! Frame numbers, which go on from the last of a multiframe to the first.
 
 ghost use Rattle.std.specs.Prelude.{◌≡◌, ◌+◌, ◌<◌, IfOk};
-ghost use Rattle.numbers.specs.Range.{IsOneTo480, checked_frame, slots};
+ghost use Rattle.numbers.specs.Range.{IsOneTo480, checked_frame_number, slots};
 ghost use Rattle.numbers.specs.Walk.{next_frame_number};
 
 use crate::{LAST_FRAME, SlotNumber};
@@ -30,11 +30,11 @@ impl Model for FrameNumber {
 impl TryFrom<u16> for FrameNumber {
     type Error = Refusal;
 
-    ghost try_from_gives = { λ n r. r ≡ checked_frame n };
+    ghost try_from_gives = { λ n r. r ≡ checked_frame_number n };
 
     /// Refuses with `OutOfRange` what is no frame number.
     fn try_from(number: u16) -> Result<FrameNumber, Refusal>
-        ensures value { result ≡ checked_frame number }
+        ensures value { result ≡ checked_frame_number number }
         ensures range { IfOk result (λ frame. frame < slots) }
     {
         match number {

@@ -7,8 +7,8 @@ use Rattle.bits.proofs.Packing.{length_packed, packed_below}
 use Rattle.bits.proofs.Places.{numbered}
 use Rattle.numbers.specs.Entries.{entry_of, is_entry}
 use Rattle.overhead.specs.declared.Overhead.{Overhead}
-use Rattle.overhead.specs.Format.{Fields, answered, covered_bits, fields_in, fields_of, found, overhead_bits, overhead_bytes, read_bytes, read_word}
-use Rattle.overhead.specs.Laws.{Coded, FieldsTell, InRange, InRangeRead, IsOverhead, SevenBytes}
+use Rattle.overhead.specs.Format.{Fields, fields_answer, covered_bits, fields_in, fields_of, shows_fault, overhead_bits, overhead_bytes, read_bytes, read_word}
+use Rattle.overhead.specs.Laws.{OverheadsCoded, FieldsTell, FieldsInRange, FieldsInRangeRead, IsOverhead, SevenBytes}
 use Rattle.overhead.specs.declared.OverheadFault.{OverheadFault}
 use Rattle.overhead.specs.declared.OverheadFault.TheVariants.{WrongRemainder, ClientTooHigh, FrameTooHigh}
 use Rattle.overhead.proofs.Reading.{changes_seen, reads_back}
@@ -32,7 +32,7 @@ overhead_is_bytes f i = packed_below 7 (overhead_bits f) i
 seven_bytes : (f : Fields) → SevenBytes f
 seven_bytes f = record { seven = overhead_seven f; bytes = overhead_is_bytes f; sent = overhead_sent f }
 
-pub coded : Coded
+pub coded : OverheadsCoded
 coded = record {
   shape = seven_bytes;
   back = λ f r. reads_back f (overhead_bytes f) r.entry r.frame (overhead_sent f);
@@ -44,19 +44,19 @@ fields_or : Fields → Result Fields OverheadFault → Fields
 fields_or d (Ok f) = f
 fields_or d (Err w) = d
 
-word_range : (word : List Bool) (f : Fields) → read_word word ≡ Ok f → InRange f
+word_range : (word : List Bool) (f : Fields) → read_word word ≡ Ok f → FieldsInRange f
 unfolding read_word fields_or
 word_range word f e =
-    go (found WrongRemainder word) (ltb 480 (fields_in word).entry) (ltb 479 (fields_in word).frame) (fields_in word) refl refl e
+    go (shows_fault WrongRemainder word) (ltb 480 (fields_in word).entry) (ltb 479 (fields_in word).frame) (fields_in word) refl refl e
   where
     go : (a b c : Bool) (g : Fields) → b ≡ ltb 480 g.entry → c ≡ ltb 479 g.frame
-        → ◌≡◌ {A = Result Fields OverheadFault} (cond a (Err WrongRemainder) (cond b (Err ClientTooHigh) (cond c (Err FrameTooHigh) (Ok g)))) (Ok f) → InRange f
+        → ◌≡◌ {A = Result Fields OverheadFault} (cond a (Err WrongRemainder) (cond b (Err ClientTooHigh) (cond c (Err FrameTooHigh) (Ok g)))) (Ok f) → FieldsInRange f
     go true b c g h k e = cc
     go false true c g h k e = cc
     go false false true g h k e = cc
-    go false false false g h k e = subst InRange (ap (fields_or g) e) (record { entry = grind (arith, nat_tests); frame = grind (arith, nat_tests) })
+    go false false false g h k e = subst FieldsInRange (ap (fields_or g) e) (record { entry = grind (arith, nat_tests); frame = grind (arith, nat_tests) })
 
-pub in_range_read : InRangeRead
+pub in_range_read : FieldsInRangeRead
 unfolding read_bytes
 in_range_read bytes f e = word_range (field bytes 10 56) f e
 
@@ -74,7 +74,7 @@ fields_tell o p h k e =
     ap₂ (λ (x : Option ℕ) (y : ℕ). let q : Overhead = record { announced = x; frame = y } in q) a b
 
 -- so what was written is what is read
-pub same_read : (r : Result Overhead OverheadFault) (o : Overhead) (bs : List ℕ) → answered r ≡ read_bytes bs → read_bytes bs ≡ Ok (fields_of o)
+pub same_read : (r : Result Overhead OverheadFault) (o : Overhead) (bs : List ℕ) → fields_answer r ≡ read_bytes bs → read_bytes bs ≡ Ok (fields_of o)
     → IfOk r IsOverhead → IsOverhead o → r ≡ Ok o
 unfolding fields_or
 same_read (Ok q) o bs h e i k =

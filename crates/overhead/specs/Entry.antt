@@ -9,9 +9,9 @@ abbrev pub read_entry : ℕ → Result ℕ OverheadFault
 read_entry n = if nat_lt 480 n then Err ClientTooHigh else Ok n
 
 -- the answer, in numbers
-abbrev pub answered_entry : Result (Option ℕ) OverheadFault → Result ℕ OverheadFault
-answered_entry (Ok e) = Ok (entry_of e)
-answered_entry (Err e) = Err e
+abbrev pub entry_answer : Result (Option ℕ) OverheadFault → Result ℕ OverheadFault
+entry_answer (Ok e) = Ok (entry_of e)
+entry_answer (Err e) = Err e
 
 -- frames are numbered from 0 to 479
 abbrev pub read_frame_number : ℕ → Result ℕ OverheadFault

@@ -41,17 +41,17 @@ abbrev pub fields_in : List Bool → Fields
 fields_in word = record { entry = high_value (take 10 word); frame = high_value (take 9 (drop 10 word)) }
 
 -- what each fault says of bits 10 to 55
-abbrev pub found : OverheadFault → List Bool → Bool
-found WrongRemainder word = not (high_value (drop 39 word) == remainder_of (take 39 word))
-found ClientTooHigh word = nat_lt 480 (fields_in word).entry
-found FrameTooHigh word = nat_lt 479 (fields_in word).frame
+abbrev pub shows_fault : OverheadFault → List Bool → Bool
+shows_fault WrongRemainder word = not (high_value (drop 39 word) == remainder_of (take 39 word))
+shows_fault ClientTooHigh word = nat_lt 480 (fields_in word).entry
+shows_fault FrameTooHigh word = nat_lt 479 (fields_in word).frame
 
 -- the first fault found, or what the bits say
 unfoldable pub read_word : List Bool → Result Fields OverheadFault
 read_word word =
-    if found WrongRemainder word then Err WrongRemainder
-    else if found ClientTooHigh word then Err ClientTooHigh
-    else if found FrameTooHigh word then Err FrameTooHigh
+    if shows_fault WrongRemainder word then Err WrongRemainder
+    else if shows_fault ClientTooHigh word then Err ClientTooHigh
+    else if shows_fault FrameTooHigh word then Err FrameTooHigh
     else Ok (fields_in word)
 
 -- what seven bytes are read as
@@ -59,6 +59,6 @@ unfoldable pub read_bytes : List ℕ → Result Fields OverheadFault
 read_bytes bytes = read_word (field bytes 10 56)
 
 -- the reader's answer, in numbers
-abbrev pub answered : Result Overhead OverheadFault → Result Fields OverheadFault
-answered (Ok o) = Ok (fields_of o)
-answered (Err e) = Err e
+abbrev pub fields_answer : Result Overhead OverheadFault → Result Fields OverheadFault
+fields_answer (Ok o) = Ok (fields_of o)
+fields_answer (Err e) = Err e

@@ -23,7 +23,7 @@ abbrev pub OthersNotRead : Type 0
 OthersNotRead = (xs ys : List ℕ) → field xs 10 56 ≡ field ys 10 56 → read_bytes xs ≡ read_bytes ys
 
 -- fields that an overhead can have: no client or one of 480, and one of 480 frames
-pub record InRange (f : Fields) : Type 0 where
+pub record FieldsInRange (f : Fields) : Type 0 where
   pub entry : f.entry ≤ 480
   pub frame : f.frame < 480
 
@@ -34,9 +34,9 @@ pub record SevenBytes (f : Fields) : Type 0 where
   pub sent : bits (overhead_bytes f) ≡ overhead_bits f
 
 -- that of all fields in range is read as these fields, and in it few changes are seen
-pub record Coded : Type 0 where
+pub record OverheadsCoded : Type 0 where
   pub shape : (f : Fields) → SevenBytes f
-  pub back : (f : Fields) → InRange f → read_bytes (overhead_bytes f) ≡ Ok f
+  pub back : (f : Fields) → FieldsInRange f → read_bytes (overhead_bytes f) ≡ Ok f
   pub seen : (f : Fields) → ChangesSeen (overhead_bytes f)
 
 -- an overhead as a program can hold one, whose fields are in range
@@ -48,8 +48,8 @@ abbrev pub FieldsTell : Type 0
 FieldsTell = (o p : Overhead) → IsOverhead o → IsOverhead p → fields_of o ≡ fields_of p → o ≡ p
 
 -- whatever bytes are read, the fields are in range
-abbrev pub InRangeRead : Type 0
-InRangeRead = (bytes : List ℕ) (f : Fields) → read_bytes bytes ≡ Ok f → InRange f
+abbrev pub FieldsInRangeRead : Type 0
+FieldsInRangeRead = (bytes : List ℕ) (f : Fields) → read_bytes bytes ≡ Ok f → FieldsInRange f
 
 abbrev pub overhead : ℕ → ℕ → Fields
 overhead entry frame = record { entry = entry; frame = frame }

@@ -7,9 +7,9 @@
 ghost use Rattle.std.specs.Prelude.{◌≡◌, ◌<◌, IfOk, Ok, true};
 ghost use Rattle.bits.specs.Bits.{bits};
 ghost use Rattle.numbers.specs.Entries.{is_entry};
-ghost use Rattle.overhead.specs.Entry.{answered_entry, read_entry, read_frame_number};
-ghost use Rattle.overhead.specs.Format.{answered, fields_of, overhead_bits, overhead_bytes, read_bytes};
-ghost use Rattle.overhead.specs.Laws.{ChangesSeen, Coded, FieldsTell, InRangeRead, IsOverhead, OthersNotRead, WorkedOverheads};
+ghost use Rattle.overhead.specs.Entry.{entry_answer, read_entry, read_frame_number};
+ghost use Rattle.overhead.specs.Format.{fields_answer, fields_of, overhead_bits, overhead_bytes, read_bytes};
+ghost use Rattle.overhead.specs.Laws.{ChangesSeen, OverheadsCoded, FieldsTell, FieldsInRangeRead, IsOverhead, OthersNotRead, WorkedOverheads};
 
 use crc::Generator;
 use numbers::{ClientNumber, FrameNumber};
@@ -52,7 +52,7 @@ impl Overhead {
 
     /// What seven bytes say, or the first fault found; bits 0 to 9 are not looked at.
     pub fn read(bytes: &[u8; 7]) -> Result<Overhead, OverheadFault>
-        ensures read { answered result ≡ read_bytes bytes.now }
+        ensures read { fields_answer result ≡ read_bytes bytes.now }
         ensures range { IfOk result IsOverhead }
     {
         let [b0, b1, b2, b3, _, _, last] = *bytes;
@@ -69,7 +69,7 @@ impl Overhead {
 
 // The client that an entry announces: none if it is 0.
 fn announced_client(entry: u16) -> Result<Option<ClientNumber>, OverheadFault>
-    ensures read { answered_entry result ≡ read_entry entry }
+    ensures read { entry_answer result ≡ read_entry entry }
     ensures range { IfOk result (λ announced. is_entry announced ≡ true) }
 {
     ClientNumber::from_entry(entry).map_err(|_| OverheadFault::ClientTooHigh)
@@ -85,8 +85,8 @@ fn frame_number(number: u16) -> Result<FrameNumber, OverheadFault>
 
 /// The overheads of all fields in range: read back, few changes seen, bits 10 to 55 alone decide what is read, and the worked values.
 pub fn format_holds()
-    ensures coded { Coded }
-    ensures range { InRangeRead }
+    ensures coded { OverheadsCoded }
+    ensures range { FieldsInRangeRead }
     ensures tell { FieldsTell }
     ensures others { OthersNotRead }
     ensures worked { WorkedOverheads }

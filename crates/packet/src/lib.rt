@@ -3,7 +3,7 @@
 //! Main promise: `write` puts exactly the blocks of the packet, and `read` gives that packet back, whatever stands behind.
 #![tactic(auto)]
 
-ghost use Rattle.std.specs.Prelude.{◌≡◌, ◌+◌, ◌*◌, ◌<◌, ◌≤◌, ◌++◌, length, drop, true, false, None, MatchOption};
+ghost use Rattle.std.specs.Prelude.{◌≡◌, ◌+◌, ◌*◌, ◌<◌, ◌≤◌, ◌++◌, length, drop, true, false, None, IfOk, MatchOption};
 ghost use Rattle.std.specs.List.{slice_get};
 ghost use Rattle.block.specs.Classes.{class_of};
 ghost use Rattle.packet.specs.Answers.{GivesBack, bytes_of, leaves, read_answer, write_answer};
@@ -186,6 +186,7 @@ fn copy_bytes(blocks: &[Block], extent: Extent, out: &mut [u8])
 pub fn read(blocks: &[Block], out: &mut [u8]) -> Result<(usize, usize), Refusal>
     ensures answer { result ≡ read_answer (packet_at blocks.now) (length out.old) }
     ensures output { out.new ≡ leaves result (bytes_of (packet_at blocks.now)) out.old }
+    ensures used { IfOk result (λ read. read.1 ≤ length blocks.now) }
     ensures back { GivesBack blocks.now out.old result out.new }
 {
     let behind = behind_opening(blocks).ok_or(Refusal::NoPacket)?;

@@ -1,11 +1,11 @@
 -- The first of the blocks left, and the rest.
-use Rattle.std.proofs.Common.{◌≡◌, ℕ, zero, suc, ◌+◌, ◌<◌, ◌≤◌, min, Bool, true, false, eqb, List, [], ◌∷◌, ◌++◌, length, get_or, take, drop, Some, None, Ok, Option, sym, refl, ◌∙◌, ⊎_elim, add-one, arith}
-use Rattle.std.proofs.Math.Path.{fun_ext}
+use Rattle.std.proofs.Common.{◌≡◌, ℕ, zero, suc, ◌+◌, ◌<◌, ◌≤◌, min, true, false, eqb, List, [], ◌∷◌, ◌++◌, length, get_or, take, drop, Some, None, Ok, Option, sym, refl, ◌∙◌, ⊎_elim, add-one, arith}
 use Rattle.std.specs.List.{slice_get}
 use Rattle.std.proofs.lemmas.List.{take_all, drop_all}
 use Rattle.std.proofs.lemmas.Bool.{cases_lt, eq-eqb}
 use Rattle.block.specs.declared.Block.{Block}
-use Rattle.port.specs.Model.{first_of, rest_of, taken}
+use Rattle.port.specs.Model.{first_of, rest_of, lists_after_next}
+use Rattle.port.proofs.Lists.{by_client}
 use Rattle.packet.specs.Format.{opening, blocks_of}
 use Rattle.packet.proofs.Blocks.{blocks_are}
 use Rattle.packet_inlet.specs.Packets.{packets_of, blocks_of_all, are_lengths}
@@ -69,12 +69,13 @@ module _ (lengths bytes : List ℕ) (d : ℕ) (l : 0 < length lengths) (packet r
 pub own_list : (c k : ℕ) (l : List Block) → k ≡ c → only_for c l k ≡ l
 own_list c k l e = rw (eq-eqb k c e) refl
 
-pub own_taken : (c d k : ℕ) (l rest : List Block) → k ≡ c → d ≡ c → rest ≡ rest_of l → only_for d rest ≡ taken k (only_for c l)
-own_taken c d k l rest e f r = fun_ext (λ j. go j (eqb j c) refl)
+pub own_taken : (c d k : ℕ) (l rest : List Block) → k ≡ c → d ≡ c → rest ≡ rest_of l → only_for d rest ≡ lists_after_next k (only_for c l)
+own_taken c d k l rest e f r =
+    let own : only_for d rest k ≡ rest_of (only_for c l k) = rw (own_list d k rest (e ∙ sym f), own_list c k l e) r in
+    by_client (only_for d rest) (only_for c l) k (rest_of (only_for c l k)) own (λ j n. other j (rw e at n))
   where
-    go : (j : ℕ) (t : Bool) → eqb j c ≡ t → only_for d rest j ≡ taken k (only_for c l) j
-    go j true q = rw (f, e, q, eq-eqb c c refl, r) refl
-    go j false q = rw (f, e, q) refl
+    other : (j : ℕ) → eqb j c ≡ false → only_for d rest j ≡ only_for c l j
+    other j n = rw (f, n) refl
 
 -- a new inlet: the blocks of no packet are given, those of all packets are left
 pub new_made : (c k count : ℕ) (lengths bytes : List ℕ) → k ≡ c → length (blocks_of []) ≡ count → true ≡ are_lengths lengths (length bytes) → Ok (only_for k (drop count (blocks_of []) ++ blocks_of_all lengths bytes)) ≡ new_answer c lengths bytes

@@ -1,2 +1,4 @@
 mod Left
 mod Lengths
+mod Stores
+mod Held

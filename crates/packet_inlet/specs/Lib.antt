@@ -1,2 +1,4 @@
 pub mod Packets
 pub mod Waiting
+pub mod Stored
+pub mod Reader

@@ -3,14 +3,14 @@ use Rattle.std.specs.Prelude.{ℕ, if◌then◌else◌, List, [], ◌++◌, leng
 use Rattle.block.specs.declared.Block.{Block}
 use Rattle.refusal.specs.declared.Refusal.{Refusal}
 use Rattle.refusal.specs.declared.Refusal.TheVariants.{PacketLength}
-use Rattle.port.specs.Model.{Lists, updated}
+use Rattle.port.specs.Model.{Lists, updated_lists}
 use Rattle.packet.specs.Format.{blocks_of}
 use Rattle.packet_inlet.specs.Packets.{are_lengths, blocks_of_all}
 use Rattle.packet_inlet.specs.declared.PacketInlet.{PacketInlet}
 
 -- the list waits for client c, and none for any other
 abbrev pub only_for : ℕ → List Block → Lists
-only_for c l = updated (λ _. []) c l
+only_for c l = updated_lists (λ _. []) c l
 
 -- the blocks not yet given: of the packet under way, and of all behind it
 abbrev pub blocks_left : PacketInlet → List Block

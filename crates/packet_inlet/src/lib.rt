@@ -9,11 +9,16 @@ ghost use Rattle.port.specs.Model.{first_of, rest_of};
 ghost use Rattle.packet_inlet.specs.Packets.{CutWhole, are_lengths};
 ghost use Rattle.packet_inlet.specs.Waiting.{blocks_left, meaning, new_answer, waiting_at};
 
+mod reader;
+mod store;
+
 use block::Block;
 use numbers::ClientNumber;
 use packet::{block_at, block_count, is_packet_length};
 use port::Inlet;
+pub use reader::PacketReader;
 use refusal::Refusal;
+pub use store::put_packet;
 
 /// The packets of one client, lent as lengths and joined bytes: no memory is needed beside the caller's.
 #[derive(Drop)]
@@ -170,6 +175,31 @@ mod tests {
         assert_eq!(rt; refusal_of(&[63, 72], &bytes)?, wrong);
         assert_eq!(rt; refusal_of(&[], &bytes)?, wrong);
         assert_eq!(rt; refusal_of(&[], &[])?, None);
+        Ok(())
+    }
+
+    // The two packets read through few places: the idle behind the first is removed by hand, and a refusal loses nothing.
+    #[test]
+    fn two_packets_read(rt: HostRuntime) -> Result<(), Fail> {
+        let bytes = counting();
+        let own = ClientNumber::try_from(7)?;
+        let mut inlet = PacketInlet::new(own, &[64, 71], &bytes)?;
+        let mut places = [Block::idle(); 12];
+        let mut reader = PacketReader::new(own, &mut places);
+        let mut back = [0; 71];
+        let short = Err(Refusal::OutputTooShort);
+        let none = Err(Refusal::NoPacket);
+        assert_eq!(rt; reader.take_packet(&mut inlet, &mut back[0..63]), short);
+        assert_eq!(rt; reader.blocks().len(), 12);
+        assert_eq!(rt; reader.take_packet(&mut inlet, &mut back), Ok((64, 10)));
+        assert_eq!(rt; (back[0], back[63], back[64]), (0, 63, 0));
+        assert_eq!(rt; reader.take_packet(&mut inlet, &mut back), none);
+        assert_eq!(rt; reader.remove_first(), Some(Block::idle()));
+        assert_eq!(rt; reader.take_packet(&mut inlet, &mut back), Ok((71, 10)));
+        assert_eq!(rt; (back[0], back[70]), (64, 134));
+        assert_eq!(rt; reader.take_packet(&mut inlet, &mut back), none);
+        assert_eq!(rt; reader.remove_first(), Some(Block::idle()));
+        assert_eq!(rt; reader.remove_first(), None);
         Ok(())
     }
 }

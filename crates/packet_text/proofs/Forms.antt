@@ -4,8 +4,8 @@ use Rattle.std.proofs.Common.{◌≡◌, ℕ, ◌+◌, ◌/◌, ◌%◌, ◌<◌
 use Rattle.std.specs.List.{AllByRecursion}
 use Rattle.std.proofs.lemmas.Fmt.{decimal_digit, decimal_step}
 use Rattle.std.proofs.lemmas.Bool.{cases_lt, cond-false, cond-true, le-ltb, lt-ltb}
-use Rattle.form.specs.Cut.{ended}
-use Rattle.form.specs.Form.{after, bind, number}
+use Rattle.form.specs.Cut.{ended_text}
+use Rattle.form.specs.Form.{rest_after, bind, number}
 use Rattle.form.specs.Lease as lease
 use Rattle.form.proofs.Numbers.{bind_at, bind_some, number_is, number_reads}
 use Rattle.form.proofs.Cuts.{ended_is, ended_push}
@@ -26,7 +26,7 @@ three_digits n low high =
     ∙ ap (λ k. (48 + k) ∷ (48 + n / 10 % 10) ∷ (48 + n % 10) ∷ []) e
 
 -- a number below 1,000 has one way to be written in decimal
-same_decimal : (n : ℕ) → n < 1000 → lease.decimal n ≡ decimal n
+same_decimal : (n : ℕ) → n < 1000 → lease.short_decimal n ≡ decimal n
 same_decimal n h =
     let long = cond (ltb n 100) ((48 + n / 10) ∷ (48 + n % 10) ∷ []) ((48 + n / 100) ∷ (48 + n / 10 % 10) ∷ (48 + n % 10) ∷ []) in
     ⊎_elim
@@ -46,10 +46,10 @@ abbrev pub digits_by : ℕ → List ℕ → Option (ℕ × List ℕ)
 digits_by client digits = cond (is_hex digits) (Some (client, digits)) None
 
 abbrev pub rest_by : ℕ → List ℕ → Option (ℕ × List ℕ)
-rest_by client rest = bind (ended rest) (digits_by client)
+rest_by client rest = bind (ended_text rest) (digits_by client)
 
 abbrev client_by : ℕ × List ℕ → Option (ℕ × List ℕ)
-client_by client = bind (after (codes " ") client.1) (rest_by client.0)
+client_by client = bind (rest_after (codes " ") client.1) (rest_by client.0)
 
 pub lines_read : LinesRead
 lines_read c bs small all =
@@ -57,9 +57,9 @@ lines_read c bs small all =
     let rest = digits ++ (10 ∷ []) in
     let parts : line_parts (line_text c bs) ≡ Some (c, digits) =
     ap (λ t. line_parts (t ++ (32 ∷ rest))) (sym (same_decimal c small))
-    ∙ bind_at (number (lease.decimal c ++ (32 ∷ rest))) client_by (c, 32 ∷ rest) (number_reads 32 rest refl c small)
-    ∙ bind_at (after (codes " ") (32 ∷ rest)) (rest_by c) rest (after_append (codes " ") rest)
-    ∙ bind_at (ended rest) (digits_by c) digits (ended_push digits 10)
+    ∙ bind_at (number (lease.short_decimal c ++ (32 ∷ rest))) client_by (c, 32 ∷ rest) (number_reads 32 rest refl c small)
+    ∙ bind_at (rest_after (codes " ") (32 ∷ rest)) (rest_by c) rest (after_append (codes " ") rest)
+    ∙ bind_at (ended_text rest) (digits_by c) digits (ended_push digits 10)
     ∙ cond-true (is_hex digits) (Some (c, digits)) None (hex_text_is bs all) in
     bind_at (line_parts (line_text c bs)) bytes_by (c, digits) parts ∙ ap (λ t. Some (c, t)) (bytes_of_text bs all).2
 
@@ -68,8 +68,8 @@ parts_are : (xs : List ℕ) (q : ℕ × List ℕ) → line_parts xs ≡ Some q �
 parts_are xs q e =
     let n = bind_some (number xs) client_by q e in
     let client : ℕ × List ℕ = n.0 in
-    let r = bind_some (after (codes " ") client.1) (rest_by client.0) q n.2 in
-    let d = bind_some (ended r.0) (digits_by client.0) q r.2 in
+    let r = bind_some (rest_after (codes " ") client.1) (rest_by client.0) q n.2 in
+    let d = bind_some (ended_text r.0) (digits_by client.0) q r.2 in
     let h = cond_some (is_hex d.0) (client.0, d.0) q d.2 in
     let number_at = number_is xs client.1 client.0 n.1 in
     let rest_at : client.1 ≡ 32 ∷ r.0 = after_is (codes " ") client.1 r.0 r.1 in

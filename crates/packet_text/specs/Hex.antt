@@ -1,7 +1,7 @@
 -- Bytes as hexadecimal digits: two a byte, the higher four bits first, in small letters.
 use Rattle.std.specs.Prelude.{ℕ, ◌+◌, ◌-◌, ◌*◌, ◌/◌, ◌%◌, Bool, true, ◌&&◌, if◌then◌else◌, List, [], ◌∷◌, length, ◌==◌, nat_lt}
 use Rattle.std.specs.List.{flat_map, list_all}
-use Rattle.form.specs.Marks.{between}
+use Rattle.form.specs.Marks.{is_between}
 
 -- the digit that stands for 0 to 15
 abbrev pub hex_digit : ℕ → ℕ
@@ -16,11 +16,11 @@ hex_text bs = flat_map hex_byte bs
 
 -- 0 to 9 and a to f
 abbrev pub is_hex_digit : ℕ → Bool
-is_hex_digit c = if between 48 57 c then true else between 97 102 c
+is_hex_digit c = if is_between 48 57 c then true else is_between 97 102 c
 
 -- what a digit stands for; 0 for another byte
 abbrev pub hex_value : ℕ → ℕ
-hex_value c = if between 48 57 c then c - 48 else if between 97 102 c then c - 87 else 0
+hex_value c = if is_between 48 57 c then c - 48 else if is_between 97 102 c then c - 87 else 0
 
 abbrev pub all_hex : List ℕ → Bool
 all_hex xs = list_all is_hex_digit xs

@@ -1,8 +1,8 @@
 -- A packet as a line: the client's number in decimal, a blank, the bytes in hexadecimal, a newline.
 use Rattle.std.specs.Prelude.{◌≡◌, ℕ, ◌<◌, if◌then◌else◌, List, [], ◌++◌, length, Some, None, Ok, Err, codes, decimal, Option, Result, nat_le}
 use Rattle.std.specs.List.{AllByRecursion}
-use Rattle.form.specs.Cut.{ended}
-use Rattle.form.specs.Form.{after, bind, number}
+use Rattle.form.specs.Cut.{ended_text}
+use Rattle.form.specs.Form.{rest_after, bind, number}
 use Rattle.refusal.specs.declared.Refusal.{Refusal}
 use Rattle.refusal.specs.declared.Refusal.TheVariants.{FormBroken, OutputTooShort}
 use Rattle.packet_text.specs.declared.PacketLine.{PacketLine}
@@ -16,8 +16,8 @@ line_text client bytes = decimal client ++ (codes " " ++ (hex_text bytes ++ code
 abbrev pub line_parts : List ℕ → Option (ℕ × List ℕ)
 line_parts xs =
     bind (number xs) λ client.
-    bind (after (codes " ") client.1) λ rest.
-    bind (ended rest) λ digits.
+    bind (rest_after (codes " ") client.1) λ rest.
+    bind (ended_text rest) λ digits.
     if is_hex digits then Some (client.0, digits) else None
 
 -- a line's client and bytes

@@ -10,6 +10,7 @@ ghost use Rattle.packets.specs.Carried.{LineCarried, LineRead, LineRefused, Line
 
 use block::Block;
 use numbers::ClientNumber;
+use packet_inlet::{PacketReader, put_packet};
 use port::{Inlet, Outlet};
 use refusal::Refusal;
 use std::alloc::{AllocError, AllocFailed, Global};
@@ -99,7 +100,7 @@ fn store_line<O: Outlet>(line: &[u8], outlet: &mut O) -> Result<usize, Refusal>
 {
     let mut bytes = [0; BYTES];
     let (client, length) = read_packet(line, &mut bytes)?;
-    transfer::put_packet(outlet, client, &bytes[0..length])
+    put_packet(outlet, client, &bytes[0..length])
 }
 
 // Takes the packet of a line out of the store again, and writes what is printed of it.
@@ -111,12 +112,8 @@ fn carry_line<I: Inlet>(stored: Stored<'_>, inlet: &mut I, out: &mut [u8]) -> Re
     let mut blocks = [Block::idle(); BLOCKS];
     let places = count.min(BLOCKS - 1);
     let mut back = [0; 2000];
-    let (read, _) = transfer::take_packet(
-        inlet,
-        client,
-        &mut blocks[0..places + places % 2],
-        &mut back,
-    )?;
+    let mut reader = PacketReader::new(client, &mut blocks[0..places + places % 2]);
+    let (read, _) = reader.take_packet(inlet, &mut back)?;
     packet_report::carried_line(client, length, count, &back[0..read], out)
 }
 

@@ -12,20 +12,20 @@ use Rattle.payload.specs.Laws.{PayloadLaws}
 use Rattle.payload.proofs.Back.{pair_length, pair_whole}
 use Rattle.payload.proofs.Slots.{blank, pairs_at, pairs_length, pairs_packed, unpacking_undone}
 
-slot_whole : (slot : ℕ) (payload : List ℕ) → WholePair (pair_at slot payload)
-slot_whole slot payload = pair_whole (slot_bits slot payload)
+pub pair_at_whole : (slot : ℕ) (payload : List ℕ) → WholePair (pair_at slot payload)
+pair_at_whole slot payload = pair_whole (slot_bits slot payload)
 
-pub all_whole : (payload : List ℕ) → All WholePair (pairs_of payload)
-all_whole payload k d h =
-    subst WholePair (sym (pairs_at payload k d (omega (arith, pairs_length payload)))) (slot_whole (k + 1) payload)
+pub pairs_whole : (payload : List ℕ) → All WholePair (pairs_of payload)
+pairs_whole payload k d h =
+    subst WholePair (sym (pairs_at payload k d (omega (arith, pairs_length payload)))) (pair_at_whole (k + 1) payload)
 
-size : (pairs : List Pair) → length (payload_of pairs) ≡ 7920
+pub payload_length : (pairs : List Pair) → length (payload_of pairs) ≡ 7920
 unfolding payload_of
-size pairs = length_packed 7920 (flat_map pair_bits pairs)
+payload_length pairs = length_packed 7920 (flat_map pair_bits pairs)
 
-each_byte : (pairs : List Pair) → Bytes (payload_of pairs)
+pub payload_is_bytes : (pairs : List Pair) → Bytes (payload_of pairs)
 unfolding payload_of
-each_byte pairs = packed_below 7920 (flat_map pair_bits pairs)
+payload_is_bytes pairs = packed_below 7920 (flat_map pair_bits pairs)
 
 joined_length : (pairs : List Pair) → All WholePair pairs → length (flat_map pair_bits pairs) ≡ 132 * length pairs
 joined_length [] w = refl
@@ -33,21 +33,21 @@ joined_length (p ∷ ps) w =
     length-append (pair_bits p) (flat_map pair_bits ps)
     ∙ omega (arith, pair_length p (w 0 p (omega arith)), joined_length ps (λ k d h. w (suc k) d (omega arith)))
 
-sent : (pairs : List Pair) → length pairs ≡ 480 → All WholePair pairs → bits (payload_of pairs) ≡ flat_map pair_bits pairs
+pub payload_sent : (pairs : List Pair) → length pairs ≡ 480 → All WholePair pairs → bits (payload_of pairs) ≡ flat_map pair_bits pairs
 unfolding payload_of
-sent pairs n w = numbered.unpacks 7920 (flat_map pair_bits pairs) (joined_length pairs w ∙ omega arith)
+payload_sent pairs n w = numbered.unpacks 7920 (flat_map pair_bits pairs) (joined_length pairs w ∙ omega arith)
 
-read_back : (pairs : List Pair) → length pairs ≡ 480 → All WholePair pairs → pairs_of (payload_of pairs) ≡ pairs
-read_back pairs n w = pairs_packed (payload_of pairs) pairs blank n (λ j h. w j blank (omega arith)) (sent pairs n w)
+pub pairs_back : (pairs : List Pair) → length pairs ≡ 480 → All WholePair pairs → pairs_of (payload_of pairs) ≡ pairs
+pairs_back pairs n w = pairs_packed (payload_of pairs) pairs blank n (λ j h. w j blank (omega arith)) (payload_sent pairs n w)
 
 pub payload_laws : PayloadLaws
 payload_laws = record {
-  slot_whole = slot_whole;
-  all_whole = all_whole;
+  slot_whole = pair_at_whole;
+  all_whole = pairs_whole;
   slots = pairs_length;
-  size = size;
-  bytes = each_byte;
-  sent = sent;
-  read_back = read_back;
+  size = payload_length;
+  bytes = payload_is_bytes;
+  sent = payload_sent;
+  read_back = pairs_back;
   made_again = unpacking_undone;
 }

@@ -1,3 +1,4 @@
+-- What is written at half-byte places: a word, a half byte, and the pieces of a pair side by side.
 use Rattle.std.proofs.Common.{◌≡◌, ℕ, suc, ◌+◌, ◌*◌, ◌/◌, ◌%◌, ◌^◌, ◌<◌, ◌≤◌, ◌⊎◌, inl, inr, Bool, List, [], ◌∷◌, ◌++◌, length, get_or, take, drop, set, sym, refl, ap, ◌∙◌, append_assoc, arith, lit<, length-append, drop-cons}
 use Rattle.std.proofs.lemmas.List.{take-append-drop, set_split, length-take-le}
 use Rattle.std.specs.Int.Bits.{bit_and, bit_or, or_shifted_r}

@@ -19,7 +19,7 @@ moved_none c f w h = record {
 taken_twice : (c : ℕ) (v : Lists) → lists_after_pair c v ≡ updated_lists v c (rest_of (rest_of (v c)))
 taken_twice c v = ap (λ l. updated_lists (lists_after_next c v) c (rest_of l)) (updated_here v c (rest_of (v c))) ∙ updated_again v c (rest_of (v c)) (rest_of (rest_of (v c)))
 
-here_is : (c n : ℕ) (w v : Lists) → v ≡ without_first n c w → v c ≡ drop n (w c)
+pub here_is : (c n : ℕ) (w v : Lists) → v ≡ without_first n c w → v c ≡ drop n (w c)
 here_is c n w v e = ap (λ (k : Lists). k c) e ∙ updated_here w c (drop n (w c))
 
 -- blocks taken again: n and then those that leave l of the rest

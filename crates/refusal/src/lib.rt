@@ -23,6 +23,10 @@ pub enum Refusal {
     PacketLength,
     /// Fewer than two free places at an outlet, or none at a queue.
     NoFreePlace,
+    /// As many blocks are accepted as a receiver counts.
+    BlockLimit,
+    /// A message of its sort waits to be sent.
+    MessageWaits,
     /// A message has no kind that can be written, or its value bytes are not those of the kind.
     MessageInvalid,
     /// No packet stands at the front of the blocks; blocks of another length than a packet may have are none.
@@ -67,6 +71,8 @@ impl Refusal {
             Refusal::ClientTwice => 5,
             Refusal::PacketLength => 6,
             Refusal::NoFreePlace => 7,
+            Refusal::BlockLimit => 8,
+            Refusal::MessageWaits => 9,
             Refusal::MessageInvalid => 10,
             Refusal::NoPacket => 11,
             Refusal::OutputTooShort => 12,

@@ -3,7 +3,7 @@ use Rattle.std.proofs.lemmas.Bool.{false≢true}
 use Rattle.std.proofs.Common.{◌≡◌, ℕ, ◌≤◌, Bool, true, false, cond, List, [], ◌∷◌, length, sym, refl, ap, ◌∙◌, subst, inl, inr, ⊎_elim, arith}
 use Rattle.std.proofs.lemmas.Bool.{cond-true, cond-false, cases_Bool}
 use Rattle.form.specs.Lease.{Group}
-use Rattle.sheet.specs.Verdict.{Claim, claimed, claims, fits, give, used}
+use Rattle.sheet.specs.Verdict.{Claim, claim_with_group, claims, fits, entries_with_group, has_used_slot}
 use Rattle.sheet.specs.Laws.{Apart, GroupsInRange, HeldBy, Holds}
 use Rattle.sheet.proofs.Held.{at, held_or_not, held_in_range, fits_in_range, in_range_fits, length_give, give_held, give_other, used_some, used_none}
 
@@ -30,25 +30,25 @@ from_nor false t e f = f
 
 -- the first group claimed
 with_first : ℕ → Group → Claim → Claim
-with_first c g s = record { entries = give c g s.entries; lawful = s.lawful; twice = cond s.twice true (used g s.entries) }
+with_first c g s = record { entries = entries_with_group c g s.entries; lawful = s.lawful; twice = cond s.twice true (has_used_slot g s.entries) }
 
-first_claimed : (c : ℕ) (g : Group) (s : Claim) → fits c g ≡ true → claimed c g s ≡ with_first c g s
+first_claimed : (c : ℕ) (g : Group) (s : Claim) → fits c g ≡ true → claim_with_group c g s ≡ with_first c g s
 unfolding with_first
-first_claimed c g s e = cond-true (fits c g) (record { entries = give c g s.entries; lawful = s.lawful; twice = cond s.twice true (used g s.entries) }) (record { entries = s.entries; lawful = false; twice = s.twice }) e
+first_claimed c g s e = cond-true (fits c g) (record { entries = entries_with_group c g s.entries; lawful = s.lawful; twice = cond s.twice true (has_used_slot g s.entries) }) (record { entries = s.entries; lawful = false; twice = s.twice }) e
 
-first_claimed_lawful : (c : ℕ) (g : Group) (s : Claim) → fits c g ≡ true → (claimed c g s).lawful ≡ s.lawful
+first_claimed_lawful : (c : ℕ) (g : Group) (s : Claim) → fits c g ≡ true → (claim_with_group c g s).lawful ≡ s.lawful
 unfolding with_first
 first_claimed_lawful c g s e = ap (λ (x : Claim). x.lawful) (first_claimed c g s e)
 
-out_of_range : (c : ℕ) (g : Group) (s : Claim) → fits c g ≡ false → (claimed c g s).lawful ≡ false
-out_of_range c g s t = ap (λ (x : Claim). x.lawful) (cond-false (fits c g) (record { entries = give c g s.entries; lawful = s.lawful; twice = cond s.twice true (used g s.entries) }) (record { entries = s.entries; lawful = false; twice = s.twice }) t)
+out_of_range : (c : ℕ) (g : Group) (s : Claim) → fits c g ≡ false → (claim_with_group c g s).lawful ≡ false
+out_of_range c g s t = ap (λ (x : Claim). x.lawful) (cond-false (fits c g) (record { entries = entries_with_group c g s.entries; lawful = s.lawful; twice = cond s.twice true (has_used_slot g s.entries) }) (record { entries = s.entries; lawful = false; twice = s.twice }) t)
 
 module _ (c : ℕ) (low : 1 ≤ c) (high : c ≤ 480) where
   module _ (g : Group) (gs : List Group) (s r : Claim) (room : length s.entries ≡ 480) (range : GroupsInRange (g ∷ gs)) (more : Came c gs (with_first c g s) r) where
-    given : (k : ℕ) → Holds g k → at (give c g s.entries) k ≡ c
+    given : (k : ℕ) → Holds g k → at (entries_with_group c g s.entries) k ≡ c
     given k h = give_held c g s.entries room range.0 range.1 range.2 k h
 
-    beside : (k : ℕ) → 1 ≤ k → (Holds g k → ⊥) → at (give c g s.entries) k ≡ at s.entries k
+    beside : (k : ℕ) → 1 ≤ k → (Holds g k → ⊥) → at (entries_with_group c g s.entries) k ≡ at s.entries k
     beside k one h = give_other c g s.entries room range.0 range.1 range.2 k one h
 
     came_held : (k : ℕ) → HeldBy (g ∷ gs) k → at r.entries k ≡ c
@@ -66,7 +66,7 @@ module _ (c : ℕ) (low : 1 ≤ c) (high : c ≤ 480) where
     unfolding with_first
     came_once e =
         let o = more.once e in
-        let t = nor s.twice (used g s.entries) o.0 in
+        let t = nor s.twice (has_used_slot g s.entries) o.0 in
         let clash : (k : ℕ) → Holds g k → HeldBy gs k → ⊥ = λ k h a. (let z = o.1 k a in let y = given k h in omega arith) in (
           t.0,
           (λ k h. ⊎_elim
@@ -78,9 +78,9 @@ module _ (c : ℕ) (low : 1 ≤ c) (high : c ≤ 480) where
     came_stays : s.twice ≡ false → Free (g ∷ gs) s.entries → Apart (g ∷ gs) → r.twice ≡ false
     unfolding with_first
     came_stays e f p =
-        let unused : used g s.entries ≡ false =
-        ⊎_elim (λ t. absurd (let u = used_some g s.entries range.0 t in u.2 (f u.0 (inl u.1)))) (λ t. t) (cases_Bool (used g s.entries)) in
-        more.stays (from_nor s.twice (used g s.entries) e unused)
+        let unused : has_used_slot g s.entries ≡ false =
+        ⊎_elim (λ t. absurd (let u = used_some g s.entries range.0 t in u.2 (f u.0 (inl u.1)))) (λ t. t) (cases_Bool (has_used_slot g s.entries)) in
+        more.stays (from_nor s.twice (has_used_slot g s.entries) e unused)
         (λ k a. beside k (held_in_range gs k range.3 a).0 (λ b. p.0 k b a) ∙ f k (inr a))
         p.1
 
@@ -95,28 +95,28 @@ module _ (c : ℕ) (low : 1 ≤ c) (high : c ≤ 480) where
   claims_come (g ∷ gs) s room range =
       let first = first_claimed c g s (fits_in_range c g low high range.0 range.1 range.2) in
       let long = length_give c g s.entries room range.0 range.1 range.2 in
-      came g gs s (claims c gs (claimed c g s)) room range
+      came g gs s (claims c gs (claim_with_group c g s)) room range
       (subst (λ t. Came c gs (with_first c g s) (claims c gs t)) (sym first) (claims_come gs (with_first c g s) long range.3))
 
 -- the claims are lawful just if the client and the groups are in range
 pub unlawful_stays : (c : ℕ) (gs : List Group) (s : Claim) → s.lawful ≡ false → (claims c gs s).lawful ≡ false
 unlawful_stays c [] s e = e
 unlawful_stays c (g ∷ gs) s e =
-    unlawful_stays c gs (claimed c g s)
+    unlawful_stays c gs (claim_with_group c g s)
     (⊎_elim (λ t. first_claimed_lawful c g s t ∙ e) (λ t. out_of_range c g s t) (cases_Bool (fits c g)))
 
 pub lawful_in_range : (c : ℕ) (gs : List Group) (s : Claim) → (claims c gs s).lawful ≡ true → GroupsInRange gs
 lawful_in_range c [] s e = tt
 lawful_in_range c (g ∷ gs) s e =
-    let rest = lawful_in_range c gs (claimed c g s) e in
+    let rest = lawful_in_range c gs (claim_with_group c g s) e in
     ⊎_elim
     (λ t. let f = in_range_fits c g t in (f.2, f.3, f.4, rest))
-    (λ t. absurd (false≢true (sym (unlawful_stays c gs (claimed c g s) (out_of_range c g s t)) ∙ e)))
+    (λ t. absurd (false≢true (sym (unlawful_stays c gs (claim_with_group c g s) (out_of_range c g s t)) ∙ e)))
     (cases_Bool (fits c g))
 
 pub lawful_client : (c : ℕ) (g : Group) (gs : List Group) (s : Claim) → (claims c (g ∷ gs) s).lawful ≡ true → (1 ≤ c) × (c ≤ 480)
 lawful_client c g gs s e =
     ⊎_elim
     (λ t. let f = in_range_fits c g t in (f.0, f.1))
-    (λ t. absurd (false≢true (sym (unlawful_stays c gs (claimed c g s) (out_of_range c g s t)) ∙ e)))
+    (λ t. absurd (false≢true (sym (unlawful_stays c gs (claim_with_group c g s) (out_of_range c g s t)) ∙ e)))
     (cases_Bool (fits c g))

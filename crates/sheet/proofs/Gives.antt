@@ -4,15 +4,15 @@ use Rattle.std.proofs.lemmas.List.{append_assoc, take_more, drop_more, length-ap
 use Rattle.numbers.specs.Entries.{entry_of, is_entry}
 use Rattle.std.proofs.lemmas.Bool.{cond-false, ne_eqb}
 use Rattle.std.proofs.lemmas.Bool.Decides.{nat_tests}
-use Rattle.sheet.specs.Verdict.{gave, filled}
+use Rattle.sheet.specs.Verdict.{entries_with_slots, has_filled_entry}
 
 or_push : (b p q : Bool) (e : ℕ) → p ≡ cond q true (cond (eqb e 0) false true) → cond b p true ≡ cond (cond b q true) true (cond (eqb e 0) false true)
 or_push true p q e h = h
 or_push false p q e h = refl
 
-filled_push : (es : List ℕ) (e : ℕ) → filled (es ++ e ∷ []) ≡ cond (filled es) true (cond (eqb e 0) false true)
+filled_push : (es : List ℕ) (e : ℕ) → has_filled_entry (es ++ e ∷ []) ≡ cond (has_filled_entry es) true (cond (eqb e 0) false true)
 filled_push [] e = refl
-filled_push (x ∷ es) e = or_push (eqb x 0) (filled (es ++ e ∷ [])) (filled es) e (filled_push es e)
+filled_push (x ∷ es) e = or_push (eqb x 0) (has_filled_entry (es ++ e ∷ [])) (has_filled_entry es) e (filled_push es e)
 
 module _ (c a n : ℕ) (es : List ℕ) (fits : a + n < length es) where
   front : List ℕ
@@ -22,14 +22,14 @@ module _ (c a n : ℕ) (es : List ℕ) (fits : a + n < length es) where
   unfolding front
   front_length = length-append (take a es) (replicate n c) ∙ (let x = length-take-le a es (omega arith) in let y = length-replicate n c in omega arith)
 
-  split : gave c a n es ≡ front ++ (get_or es (a + n) 0 ∷ drop (a + n + 1) es)
+  split : entries_with_slots c a n es ≡ front ++ (get_or es (a + n) 0 ∷ drop (a + n + 1) es)
   unfolding front
   split = sym (append_assoc (take a es) (replicate n c) (drop (a + n) es)) ∙ ap (λ t. (take a es ++ replicate n c) ++ t) (drop_more es (a + n) 0 fits)
 
-  pub at_next : get_or (gave c a n es) (a + n) 0 ≡ get_or es (a + n) 0
+  pub at_next : get_or (entries_with_slots c a n es) (a + n) 0 ≡ get_or es (a + n) 0
   at_next = ap (λ t. get_or t (a + n) 0) split ∙ get_or_at front (get_or es (a + n) 0) (drop (a + n + 1) es) 0 (a + n) front_length
 
-  pub gave_more : set (gave c a n es) (a + n) c ≡ gave c a (n + 1) es
+  pub gave_more : set (entries_with_slots c a n es) (a + n) c ≡ entries_with_slots c a (n + 1) es
   unfolding front
   gave_more =
       let rest : List ℕ = drop (a + n + 1) es in
@@ -39,11 +39,11 @@ module _ (c a n : ℕ) (es : List ℕ) (fits : a + n < length es) where
       ∙ ap (λ t. take a es ++ t) (sym (append_assoc (replicate n c) (c ∷ []) rest) ∙ ap (λ t. t ++ rest) (replicate_more n c))
       ∙ ap (λ m. take a es ++ (replicate (n + 1) c ++ drop m es)) (add_assoc a n 1)
 
-  pub filled_more : filled (take (n + 1) (drop a es)) ≡ cond (filled (take n (drop a es))) true (cond (eqb (get_or es (a + n) 0) 0) false true)
+  pub filled_more : has_filled_entry (take (n + 1) (drop a es)) ≡ cond (has_filled_entry (take n (drop a es))) true (cond (eqb (get_or es (a + n) 0) 0) false true)
   filled_more =
-      ap filled (take_more (drop a es) n 0 (rw length-drop (omega arith)))
+      ap has_filled_entry (take_more (drop a es) n 0 (rw length-drop (omega arith)))
       ∙ filled_push (take n (drop a es)) (get_or (drop a es) n 0)
-      ∙ ap (λ x. cond (filled (take n (drop a es))) true (cond (eqb x 0) false true)) (get_or-drop a es n 0)
+      ∙ ap (λ x. cond (has_filled_entry (take n (drop a es))) true (cond (eqb x 0) false true)) (get_or-drop a es n 0)
 
 -- an entry is a client's if it is not 0
 pub some_entry : (o : Option ℕ) → is_entry o ≡ true → is_some o ≡ cond (eqb (entry_of o) 0) false true
@@ -51,14 +51,14 @@ some_entry None h = refl
 some_entry (Some c) h = sym (cond-false (eqb c 0) false true (ne_eqb c 0 (λ e. grind (arith, nat_tests))))
 
 -- the slot behind the first a and the n that are given already
-module _ (c a n slot : ℕ) (es now : List ℕ) (place : slot - 1 ≡ a + n) (within : a + n < length es) (is : now ≡ gave c a n es) where
-  pub slot_given : set now (slot - 1) c ≡ gave c a (n + 1) es
+module _ (c a n slot : ℕ) (es now : List ℕ) (place : slot - 1 ≡ a + n) (within : a + n < length es) (is : now ≡ entries_with_slots c a n es) where
+  pub slot_given : set now (slot - 1) c ≡ entries_with_slots c a (n + 1) es
   slot_given = rw (place, is) (gave_more c a n es within)
 
   pub slot_read : get_or now (slot - 1) 0 ≡ get_or es (a + n) 0
   slot_read = rw (place, is) (at_next c a n es within)
 
-pub gave_none : (c a : ℕ) (es : List ℕ) → es ≡ gave c a 0 es
+pub gave_none : (c a : ℕ) (es : List ℕ) → es ≡ entries_with_slots c a 0 es
 gave_none c a es = sym (take-append-drop a es) ∙ ap (λ i. take a es ++ drop i es) (sym (add-zero a))
 
 pub again_then : (b t u : Bool) → u ≡ cond b true t → t ≡ true → true ≡ u

@@ -4,7 +4,7 @@ use Rattle.std.proofs.lemmas.List.{length-append, length-replicate, length-take-
 use Rattle.std.proofs.lemmas.Bool.{cases_lt, cond-true, cond-false}
 use Rattle.std.proofs.lemmas.Bool.Decides.{eqb_tells, nat_tests}
 use Rattle.form.specs.Lease.{Group}
-use Rattle.sheet.specs.Verdict.{filled, fits, give, size, used}
+use Rattle.sheet.specs.Verdict.{has_filled_entry, fits, entries_with_group, size, has_used_slot}
 use Rattle.sheet.specs.Laws.{GroupsInRange, HeldBy, Holds}
 
 -- the entry of slot k
@@ -51,7 +51,7 @@ module _ (c : ℕ) (g : Group) (es : List ℕ) (full : length es ≡ 480) (low :
   tail : List ℕ
   tail = replicate n c ++ drop (a + n) es
 
-  pub length_give : length (give c g es) ≡ 480
+  pub length_give : length (entries_with_group c g es) ≡ 480
   unfolding a n
   length_give =
       let x = length-append (take (g.first - 1) es) (replicate (g.last + 1 - g.first) c ++ drop (g.first - 1 + (g.last + 1 - g.first)) es) in
@@ -61,14 +61,14 @@ module _ (c : ℕ) (g : Group) (es : List ℕ) (full : length es ≡ 480) (low :
       let f = length-take-le (g.first - 1) es (omega arith) in
       omega arith
 
-  pub give_held : (k : ℕ) → Holds g k → at (give c g es) k ≡ c
+  pub give_held : (k : ℕ) → Holds g k → at (entries_with_group c g es) k ≡ c
   unfolding a n tail
   give_held k h =
       get_or-append_right (take a es) tail a (k - 1) 0 fore (omega arith)
       ∙ get_or_append_left (replicate n c) (drop (a + n) es) 0 (k - 1 - a) (let z = length-replicate n c in omega arith)
       ∙ get_or-replicate n (k - 1 - a) c 0 (omega arith)
 
-  pub give_other : (k : ℕ) → 1 ≤ k → (Holds g k → ⊥) → at (give c g es) k ≡ at es k
+  pub give_other : (k : ℕ) → 1 ≤ k → (Holds g k → ⊥) → at (entries_with_group c g es) k ≡ at es k
   unfolding a n tail
   give_other k one non =
       ⊎_elim
@@ -83,25 +83,25 @@ module _ (c : ℕ) (g : Group) (es : List ℕ) (full : length es ≡ 480) (low :
       (cases_lt k g.first)
 
 -- an entry that is not empty
-filled_some : (xs : List ℕ) → filled xs ≡ true → (i : ℕ) × (i < length xs) × (get_or xs i 0 ≡ 0 → ⊥)
+filled_some : (xs : List ℕ) → has_filled_entry xs ≡ true → (i : ℕ) × (i < length xs) × (get_or xs i 0 ≡ 0 → ⊥)
 filled_some [] e = absurd (let z : ◌≡◌ {A = ℕ} 0 1 = cc in omega arith)
 filled_some (x ∷ xs) e =
     ⊎_elim
-    (λ t. let r = filled_some xs (sym (cond-true (eqb x 0) (filled xs) true t.0) ∙ e) in (suc r.0, omega arith, r.2))
+    (λ t. let r = filled_some xs (sym (cond-true (eqb x 0) (has_filled_entry xs) true t.0) ∙ e) in (suc r.0, omega arith, r.2))
     (λ t. (0, omega arith, t.1))
     (eqb_tells x 0)
 
-filled_none : (xs : List ℕ) (i : ℕ) → filled xs ≡ false → get_or xs i 0 ≡ 0
+filled_none : (xs : List ℕ) (i : ℕ) → has_filled_entry xs ≡ false → get_or xs i 0 ≡ 0
 filled_none [] i e = refl
 filled_none (x ∷ xs) zero e =
-    ⊎_elim (λ t. t.1) (λ t. absurd (let f : true ≡ false = sym (cond-false (eqb x 0) (filled xs) true t.0) ∙ e in let z : ◌≡◌ {A = ℕ} 0 1 = cc in omega arith)) (eqb_tells x 0)
+    ⊎_elim (λ t. t.1) (λ t. absurd (let f : true ≡ false = sym (cond-false (eqb x 0) (has_filled_entry xs) true t.0) ∙ e in let z : ◌≡◌ {A = ℕ} 0 1 = cc in omega arith)) (eqb_tells x 0)
 filled_none (x ∷ xs) (suc i) e =
-    ⊎_elim (λ t. filled_none xs i (sym (cond-true (eqb x 0) (filled xs) true t.0) ∙ e)) (λ t. absurd (let f : true ≡ false = sym (cond-false (eqb x 0) (filled xs) true t.0) ∙ e in let z : ◌≡◌ {A = ℕ} 0 1 = cc in omega arith)) (eqb_tells x 0)
+    ⊎_elim (λ t. filled_none xs i (sym (cond-true (eqb x 0) (has_filled_entry xs) true t.0) ∙ e)) (λ t. absurd (let f : true ≡ false = sym (cond-false (eqb x 0) (has_filled_entry xs) true t.0) ∙ e in let z : ◌≡◌ {A = ℕ} 0 1 = cc in omega arith)) (eqb_tells x 0)
 
 part_at : (es : List ℕ) (s m i : ℕ) → i < m → get_or (take m (drop s es)) i 0 ≡ get_or es (s + i) 0
 part_at es s m i h = get_or-take m (drop s es) i 0 h ∙ get_or-drop s es i 0
 
-pub used_some : (g : Group) (es : List ℕ) → 1 ≤ g.first → used g es ≡ true → (k : ℕ) × Holds g k × (at es k ≡ 0 → ⊥)
+pub used_some : (g : Group) (es : List ℕ) → 1 ≤ g.first → has_used_slot g es ≡ true → (k : ℕ) × Holds g k × (at es k ≡ 0 → ⊥)
 used_some g es low e =
     let r = filled_some (take (size g) (drop (g.first - 1) es)) e in
     let i : ℕ = r.0 in
@@ -110,7 +110,7 @@ used_some g es low e =
     let same : g.first - 1 + i ≡ g.first + i - 1 = omega arith in
     (g.first + i, (omega arith, omega arith), λ z. r.2 (part_at es (g.first - 1) (size g) i h ∙ ap (λ j. get_or es j 0) same ∙ z))
 
-pub used_none : (g : Group) (es : List ℕ) (k : ℕ) → 1 ≤ g.first → used g es ≡ false → Holds g k → at es k ≡ 0
+pub used_none : (g : Group) (es : List ℕ) (k : ℕ) → 1 ≤ g.first → has_used_slot g es ≡ false → Holds g k → at es k ≡ 0
 used_none g es k low e h =
     let same : g.first - 1 + (k - g.first) ≡ k - 1 = omega arith in
     sym (part_at es (g.first - 1) (size g) (k - g.first) (omega arith) ∙ ap (λ j. get_or es j 0) same)

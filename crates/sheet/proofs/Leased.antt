@@ -3,11 +3,11 @@ use Rattle.std.proofs.Common.{◌≡◌, ℕ, ◌<◌, ◌≤◌, true, false, l
 use Rattle.std.proofs.lemmas.List.{append_assoc, append-nil}
 use Rattle.std.proofs.lemmas.Bool.{cond-true, ltb-true, lt-ltb, cases_eq}
 use Rattle.std.proofs.lemmas.Bool.Decides.{nat_tests}
-use Rattle.numbers.specs.Range.{in_range}
+use Rattle.numbers.specs.Range.{is_one_to_480}
 use Rattle.calendar.specs.Share.{first_slot, slot_count}
 use Rattle.calendar.proofs.Shares.{share_law}
 use Rattle.form.specs.Lease.{Group, Lease, SomeGroup}
-use Rattle.sheet.specs.Verdict.{named}
+use Rattle.sheet.specs.Verdict.{is_named}
 use Rattle.sheet.specs.Laws.{Apart, Belongs, EachLawful, Gives, GroupsInRange, HeldBy, InRange, Lawful, Leases, groups_of}
 use Rattle.sheet.proofs.Held.{at, held_in_range}
 
@@ -129,19 +129,19 @@ own_slot (l ∷ ls) c e p h =
 
 -- a client has a slot in the calendar just if it has a lease
 module _ (ls : List Lease) (es : List ℕ) (lawful : Lawful ls) (gives : Gives ls es) (c : ℕ) (low : 1 ≤ c) (high : c ≤ 480) where
-  numbers_in_range : in_range c ≡ true
+  numbers_in_range : is_one_to_480 c ≡ true
   numbers_in_range = grind (arith, nat_tests)
 
-  pub named_has_lease : named c es ≡ true → Leases c ls
+  pub named_has_lease : is_named c es ≡ true → Leases c ls
   named_has_lease e =
-      let some = ltb-true 0 (slot_count c es) (sym (cond-true (in_range c) (ltb 0 (slot_count c es)) false numbers_in_range) ∙ e) in
+      let some = ltb-true 0 (slot_count c es) (sym (cond-true (is_one_to_480 c) (ltb 0 (slot_count c es)) false numbers_in_range) ∙ e) in
       let law = share_law c es in
       let own = law.own (λ z. let n = law.together.1 z in omega arith) in
       let s : ℕ = first_slot c es in
       let full = gives.0 in
       belongs_client ls s c (subst (λ d. Belongs ls s d) own.2 (gives.1 s own.0 (omega arith))) (λ z. omega arith)
 
-  pub lease_is_named : Leases c ls → named c es ≡ true
+  pub lease_is_named : Leases c ls → is_named c es ≡ true
   lease_is_named h =
       let o = own_slot ls c lawful.0 lawful.1 h in
       let law = share_law c es in
@@ -149,4 +149,4 @@ module _ (ls : List Lease) (es : List ℕ) (lawful : Lawful ls) (gives : Gives l
       let has : at es o.0 ≡ c = o.4 (at es o.0) (gives.1 o.0 o.1 o.2) in
       let first : first_slot c es ≡ 0 → ⊥ = λ z. law.none z o.0 (o.1, omega arith, has) in
       let some : 0 < slot_count c es = ⊎_elim (λ z. absurd (first (law.together.0 z))) (λ z. omega arith) (cases_eq (slot_count c es) 0) in
-      cond-true (in_range c) (ltb 0 (slot_count c es)) false numbers_in_range ∙ lt-ltb 0 (slot_count c es) some
+      cond-true (is_one_to_480 c) (ltb 0 (slot_count c es)) false numbers_in_range ∙ lt-ltb 0 (slot_count c es) some

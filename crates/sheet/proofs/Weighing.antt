@@ -6,7 +6,7 @@ use Rattle.refusal.specs.declared.Refusal.TheVariants.{OutOfRange, SlotTwice, Cl
 use Rattle.refusal.specs.declared.Level.TheVariants.{Calendar}
 use Rattle.refusal.specs.declared.SheetRefusal.{SheetRefusal}
 use Rattle.form.specs.Lease.{Group, Lease, SomeGroup, Writable, ShortGroups}
-use Rattle.sheet.specs.Verdict.{Claim, claims, leased, named, refused, start}
+use Rattle.sheet.specs.Verdict.{Claim, claims, lease_verdict, is_named, refusal_at, start}
 use Rattle.sheet.specs.Laws.{Apart, Belongs, Gives, GroupsInRange, InRange, Lawful, Leases, groups_of}
 use Rattle.sheet.proofs.Held.{at, held_or_not, held_in_range}
 use Rattle.sheet.proofs.Claiming.{Came, claims_come, lawful_client, lawful_in_range}
@@ -31,7 +31,7 @@ err_same h = cc
 -- the three tests of a lease
 abbrev tests : Bool → Bool → Bool → ℕ → List ℕ → Result (List ℕ) SheetRefusal
 tests l k t n es =
-    cond l (cond k (Err (refused ClientTwice Calendar n)) (cond t (Err (refused SlotTwice Calendar n)) (Ok es))) (Err (refused OutOfRange Calendar n))
+    cond l (cond k (Err (refusal_at ClientTwice Calendar n)) (cond t (Err (refusal_at SlotTwice Calendar n)) (Ok es))) (Err (refusal_at OutOfRange Calendar n))
 
 tests_ok : (l k t : Bool) (n : ℕ) (es out : List ℕ) → tests l k t n es ≡ Ok out → (l ≡ true) × (k ≡ false) × (t ≡ false) × (es ≡ out)
 tests_ok true true t n es out e = absurd (err_ok e)
@@ -42,8 +42,8 @@ tests_ok false k t n es out e = absurd (err_ok e)
 -- which test failed
 Failed : Bool → Bool → Bool → ℕ → SheetRefusal → Type 0
 Failed l k t n e =
-    ((l ≡ false) × (e ≡ refused OutOfRange Calendar n))
-    ⊎ (((l ≡ true) × (k ≡ true) × (e ≡ refused ClientTwice Calendar n)) ⊎ ((l ≡ true) × (k ≡ false) × (t ≡ true) × (e ≡ refused SlotTwice Calendar n)))
+    ((l ≡ false) × (e ≡ refusal_at OutOfRange Calendar n))
+    ⊎ (((l ≡ true) × (k ≡ true) × (e ≡ refusal_at ClientTwice Calendar n)) ⊎ ((l ≡ true) × (k ≡ false) × (t ≡ true) × (e ≡ refusal_at SlotTwice Calendar n)))
 
 tests_failed : (l k t : Bool) (n : ℕ) (es : List ℕ) (e : SheetRefusal) → tests l k t n es ≡ Err e → Failed l k t n e
 unfolding Failed
@@ -106,35 +106,35 @@ module _ (ls : List Lease) (es : List ℕ) (state : State ls es) (m : Lease) (n 
             (held_or_not m.groups k),
       )
 
-  pub lease_ok : SomeGroup m.groups → (out : List ℕ) → leased n es (Some m) ≡ Ok out → State (ls ++ (m ∷ [])) out
+  pub lease_ok : SomeGroup m.groups → (out : List ℕ) → lease_verdict n es (Some m) ≡ Ok out → State (ls ++ (m ∷ [])) out
   unfolding s
   lease_ok g out e =
-      let t = tests_ok s.lawful (named m.client es) s.twice n s.entries out e in
+      let t = tests_ok s.lawful (is_named m.client es) s.twice n s.entries out e in
       let r = lawful_range g t.0 in
       let p = taken_by_none r t.2 in
       let new : Leases m.client ls → ⊥ = λ h. false≢true (sym t.1 ∙ lease_is_named ls es state.0 state.1 m.client r.0 r.1 h) in
       ((each_snoc ls m state.0.0 g r new, p), subst (Gives (ls ++ (m ∷ []))) t.3 (grown r p))
 
-  pub lease_reads : Lawful (ls ++ (m ∷ [])) → (out : List ℕ) × (leased n es (Some m) ≡ Ok out)
+  pub lease_reads : Lawful (ls ++ (m ∷ [])) → (out : List ℕ) × (lease_verdict n es (Some m) ≡ Ok out)
   unfolding s
   lease_reads w =
       let l = each_last ls m w.0 in
       let r = l.1 in
-      let known : named m.client es ≡ false =
-      ⊎_elim (λ t. absurd (l.2 (named_has_lease ls es state.0 state.1 m.client r.0 r.1 t))) (λ t. t) (cases_Bool (named m.client es)) in (
+      let known : is_named m.client es ≡ false =
+      ⊎_elim (λ t. absurd (l.2 (named_has_lease ls es state.0 state.1 m.client r.0 r.1 t))) (λ t. t) (cases_Bool (is_named m.client es)) in (
         s.entries,
-        ap (λ b. tests b (named m.client es) s.twice n s.entries) (range_lawful r)
+        ap (λ b. tests b (is_named m.client es) s.twice n s.entries) (range_lawful r)
             ∙ ap (λ b. tests true b s.twice n s.entries) known
             ∙ ap (λ b. tests true false b n s.entries) (apart_once r w.1),
       )
 
   -- which of the rules of a lease is broken
   pub data Fault (e : SheetRefusal) : Type 0 where
-    far : (InRange m → ⊥) → e ≡ refused OutOfRange Calendar n → Fault e
-    again : InRange m → Leases m.client ls → e ≡ refused ClientTwice Calendar n → Fault e
-    clash : InRange m → (Leases m.client ls → ⊥) → (Apart (groups_of (ls ++ (m ∷ []))) → ⊥) → e ≡ refused SlotTwice Calendar n → Fault e
+    far : (InRange m → ⊥) → e ≡ refusal_at OutOfRange Calendar n → Fault e
+    again : InRange m → Leases m.client ls → e ≡ refusal_at ClientTwice Calendar n → Fault e
+    clash : InRange m → (Leases m.client ls → ⊥) → (Apart (groups_of (ls ++ (m ∷ []))) → ⊥) → e ≡ refusal_at SlotTwice Calendar n → Fault e
 
-  pub lease_fails : SomeGroup m.groups → (e : SheetRefusal) → leased n es (Some m) ≡ Err e → Fault e
+  pub lease_fails : SomeGroup m.groups → (e : SheetRefusal) → lease_verdict n es (Some m) ≡ Err e → Fault e
   unfolding s Failed
   lease_fails g e h =
       ⊎_elim
@@ -143,4 +143,4 @@ module _ (ls : List Lease) (es : List ℕ) (state : State ls es) (m : Lease) (n 
       (λ u. let r = lawful_range g u.0 in again r (named_has_lease ls es state.0 state.1 m.client r.0 r.1 u.1) u.2)
       (λ u. let r = lawful_range g u.0 in
       clash r (λ a. false≢true (sym u.1 ∙ lease_is_named ls es state.0 state.1 m.client r.0 r.1 a)) (λ p. false≢true (sym (apart_once r p) ∙ u.2)) u.3) t)
-      (tests_failed s.lawful (named m.client es) s.twice n s.entries e h)
+      (tests_failed s.lawful (is_named m.client es) s.twice n s.entries e h)

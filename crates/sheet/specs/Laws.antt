@@ -8,7 +8,7 @@ use Rattle.refusal.specs.declared.SheetRefusal.{SheetRefusal}
 use Rattle.numbers.specs.Range.{slots}
 use Rattle.form.specs.Lease.{Group, Lease, lease_text, SomeGroup, Writable}
 use Rattle.form.specs.Marks.{LineOf, lines, mark_of}
-use Rattle.sheet.specs.Verdict.{longest, refused}
+use Rattle.sheet.specs.Verdict.{longest_sheet, refusal_at}
 
 -- slot k is in the group
 abbrev pub Holds : Group → ℕ → Type 0
@@ -55,12 +55,12 @@ abbrev pub sheet_text : List Lease → List ℕ
 sheet_text [] = []
 sheet_text (l ∷ ls) = lease_text l ++ (10 ∷ sheet_text ls)
 
-abbrev pub written : Lease → LineOf
-written l = record { text = lease_text l; ended = true }
+abbrev pub lease_line : Lease → LineOf
+lease_line l = record { text = lease_text l; ended = true }
 
-abbrev pub written_all : List Lease → List LineOf
-written_all [] = []
-written_all (l ∷ ls) = written l ∷ written_all ls
+abbrev pub lease_lines : List Lease → List LineOf
+lease_lines [] = []
+lease_lines (l ∷ ls) = lease_line l ∷ lease_lines ls
 
 -- slot k belongs to c: the client of the lease whose groups hold k, or 0 if none does
 abbrev pub Belongs : List Lease → ℕ → ℕ → Type 0
@@ -114,10 +114,10 @@ Stands c (x ∷ xs) = (x ≡ c) ⊎ Stands c xs
 -- its client has a lease already; one of its slots is given twice
 abbrev pub Breaks : List Lease → LineOf → Rule → Type 0
 Breaks ls l marks = (c : ℕ) × Stands c l.text × (mark_of c ≡ None)
-Breaks ls l form = (m : Lease) → Writable m → l ≢ written m
-Breaks ls l range = (m : Lease) × Writable m × (l ≡ written m) × (InRange m → ⊥)
-Breaks ls l client = (m : Lease) × Writable m × (l ≡ written m) × Leases m.client ls
-Breaks ls l slot = (m : Lease) × Writable m × (l ≡ written m) × (Apart (groups_of (ls ++ (m ∷ []))) → ⊥)
+Breaks ls l form = (m : Lease) → Writable m → l ≢ lease_line m
+Breaks ls l range = (m : Lease) × Writable m × (l ≡ lease_line m) × (InRange m → ⊥)
+Breaks ls l client = (m : Lease) × Writable m × (l ≡ lease_line m) × Leases m.client ls
+Breaks ls l slot = (m : Lease) × Writable m × (l ≡ lease_line m) × (Apart (groups_of (ls ++ (m ∷ []))) → ⊥)
 
 -- the refused line is the first that breaks a rule, and its cause the first rule that it breaks
 pub record FirstFault (sheet : List ℕ) (e : SheetRefusal) : Type 0 where
@@ -126,11 +126,11 @@ pub record FirstFault (sheet : List ℕ) (e : SheetRefusal) : Type 0 where
   pub behind : List LineOf
   pub rule : Rule
   pub lawful : Lawful leases
-  pub sheet_is : lines sheet ≡ written_all leases ++ (line ∷ behind)
-  pub refusal_is : e ≡ refused (cause_of rule) (level_of rule) (length leases + 1)
+  pub sheet_is : lines sheet ≡ lease_lines leases ++ (line ∷ behind)
+  pub refusal_is : e ≡ refusal_at (cause_of rule) (level_of rule) (length leases + 1)
   pub breaks : Breaks leases line rule
   pub first : (r : Rule) → order r < order rule → Breaks leases line r → ⊥
 
 -- a refused sheet is too long, or its first fault refuses it
-abbrev pub Refused : List ℕ → SheetRefusal → Type 0
-Refused sheet e = ((longest < length sheet) × (e ≡ refused FormBroken Forms 1)) ⊎ ((length sheet ≤ longest) × FirstFault sheet e)
+abbrev pub RefusedSheet : List ℕ → SheetRefusal → Type 0
+RefusedSheet sheet e = ((longest_sheet < length sheet) × (e ≡ refusal_at FormBroken Forms 1)) ⊎ ((length sheet ≤ longest_sheet) × FirstFault sheet e)

@@ -10,11 +10,11 @@ ghost use Rattle.form.specs.Form.{form};
 ghost use Rattle.form.specs.Lease.{Lease};
 ghost use Rattle.form.specs.Marks.{lines};
 ghost use Rattle.form.specs.Reads.{Reads};
-ghost use Rattle.sheet.specs.Laws.{Gives, Lawful, Refused, WritesOut, sheet_text};
-ghost use Rattle.sheet.specs.Verdict.{claimed, claims_of, fits, give, judged, leased, named, refused, used, verdict, weighed};
+ghost use Rattle.sheet.specs.Laws.{Gives, Lawful, RefusedSheet, WritesOut, sheet_text};
+ghost use Rattle.sheet.specs.Verdict.{claim_verdict, claim_with_group, claims_of, entries_with_group, fits, has_used_slot, is_named, lease_verdict, lines_verdict, refusal_at, verdict};
 
 use calendar::Calendar;
-use form::{Fault, FormError, Group, closes, first_line, read_client, read_group};
+use form::{FormError, Group, SheetFault, closes, first_line, read_client, read_group};
 use numbers::{ClientNumber, SlotNumber};
 use refusal::{Level, Refusal, SheetRefusal};
 
@@ -23,8 +23,8 @@ pub const LONGEST: usize = 16384;
 
 // Gives the slots from first to last to a client; whether one of them had a client.
 fn give(draft: &mut Calendar, client: ClientNumber, first: SlotNumber, last: SlotNumber) -> bool
-    ensures entries { entries_of draft.new ≡ give client (record { first = first; last = last }) (entries_of draft.old) }
-    ensures again { result ≡ used (record { first = first; last = last }) (entries_of draft.old) }
+    ensures entries { entries_of draft.new ≡ entries_with_group client (record { first = first; last = last }) (entries_of draft.old) }
+    ensures again { result ≡ has_used_slot (record { first = first; last = last }) (entries_of draft.old) }
 {
     let mut again = false;
     for slot in first.to(last) {
@@ -41,8 +41,8 @@ fn give(draft: &mut Calendar, client: ClientNumber, first: SlotNumber, last: Slo
 // calendar as a `&mut` in a field, each of the five functions would have to promise that it is the same loan.
 fn grant(draft: &mut Calendar, client: u16, group: Group) -> Result<bool, Refusal>
     ensures fits { is_ok result ≡ fits client (group_of group) }
-    ensures again { IfOk result (λ again. again ≡ used (group_of group) (entries_of draft.old)) }
-    ensures given { OnOk result (entries_of draft.new ≡ give client (group_of group) (entries_of draft.old)) }
+    ensures again { IfOk result (λ again. again ≡ has_used_slot (group_of group) (entries_of draft.old)) }
+    ensures given { OnOk result (entries_of draft.new ≡ entries_with_group client (group_of group) (entries_of draft.old)) }
     ensures cause { IfErr result (λ cause. cause ≡ Refusal.OutOfRange) }
     ensures kept { OnErr result (draft.new ≡ draft.old) }
 {
@@ -65,7 +65,7 @@ struct Claims {
 
 // One group more.
 fn claim(draft: &mut Calendar, so_far: Claims, client: u16, group: Group) -> Claims
-    ensures { claim_of (entries_of draft.new) result ≡ claimed client (group_of group) (claim_of (entries_of draft.old) so_far) }
+    ensures { claim_of (entries_of draft.new) result ≡ claim_with_group client (group_of group) (claim_of (entries_of draft.old) so_far) }
 {
     match grant(draft, client, group) {
         Ok(again) => Claims {
@@ -100,15 +100,15 @@ fn claim_all(draft: &mut Calendar, client: u16, text: &[u8]) -> Result<Claims, F
 
 // Whether a client has slots.
 fn is_named(draft: &Calendar, client: u16) -> bool
-    ensures { result ≡ named client (entries_of draft.now) }
+    ensures { result ≡ is_named client (entries_of draft.now) }
 {
     ClientNumber::try_from(client).is_ok_and(|client| draft.share(client).0 > 0)
 }
 
 // The fault of a line that has the form, if it has one: a number out of range first, then the client, then its slots.
-fn first_fault(known: bool, claims: Claims) -> Result<(), Fault>
-    ensures lawful { OnOk result ((n : ℕ) (es : List ℕ) → weighed n known (claim_of es claims) ≡ Ok es) }
-    ensures fault { IfErr result (λ fault. (n : ℕ) (es : List ℕ) → weighed n known (claim_of es claims) ≡ Err (refused fault.cause fault.level n)) }
+fn first_fault(known: bool, claims: Claims) -> Result<(), SheetFault>
+    ensures lawful { OnOk result ((n : ℕ) (es : List ℕ) → claim_verdict n known (claim_of es claims) ≡ Ok es) }
+    ensures fault { IfErr result (λ fault. (n : ℕ) (es : List ℕ) → claim_verdict n known (claim_of es claims) ≡ Err (refusal_at fault.cause fault.level n)) }
 {
     let cause = if !claims.lawful {
         Refusal::OutOfRange
@@ -119,16 +119,16 @@ fn first_fault(known: bool, claims: Claims) -> Result<(), Fault>
     } else {
         return Ok(());
     };
-    Err(Fault {
+    Err(SheetFault {
         cause,
         level: Level::Calendar,
     })
 }
 
 // Reads a line without its newline as a lease, and gives the lease's slots to its client.
-fn lease(draft: &mut Calendar, line: &[u8]) -> Result<(), Fault>
-    ensures read { OnOk result ((n : ℕ) → leased n (entries_of draft.old) (form line.now) ≡ Ok (entries_of draft.new)) }
-    ensures fault { IfErr result (λ fault. (n : ℕ) → leased n (entries_of draft.old) (form line.now) ≡ Err (refused fault.cause fault.level n)) }
+fn lease(draft: &mut Calendar, line: &[u8]) -> Result<(), SheetFault>
+    ensures read { OnOk result ((n : ℕ) → lease_verdict n (entries_of draft.old) (form line.now) ≡ Ok (entries_of draft.new)) }
+    ensures fault { IfErr result (λ fault. (n : ℕ) → lease_verdict n (entries_of draft.old) (form line.now) ≡ Err (refusal_at fault.cause fault.level n)) }
 {
     let (client, text) = read_client(line)?;
     let known = is_named(draft, client);
@@ -137,10 +137,10 @@ fn lease(draft: &mut Calendar, line: &[u8]) -> Result<(), Fault>
 }
 
 // Reads the first line of what is left of a sheet, and answers what follows it.
-fn read_line<'a>(draft: &mut Calendar, sheet: &'a [u8]) -> Result<&'a [u8], Fault>
+fn read_line<'a>(draft: &mut Calendar, sheet: &'a [u8]) -> Result<&'a [u8], SheetFault>
     requires { 0 < length sheet.now }
-    ensures read { IfOk result (λ rest. (n : ℕ) → judged n (entries_of draft.old) (lines sheet.now) ≡ judged (n + 1) (entries_of draft.new) (lines rest.now)) }
-    ensures fault { IfErr result (λ fault. (n : ℕ) → judged n (entries_of draft.old) (lines sheet.now) ≡ Err (refused fault.cause fault.level n)) }
+    ensures read { IfOk result (λ rest. (n : ℕ) → lines_verdict n (entries_of draft.old) (lines sheet.now) ≡ lines_verdict (n + 1) (entries_of draft.new) (lines rest.now)) }
+    ensures fault { IfErr result (λ fault. (n : ℕ) → lines_verdict n (entries_of draft.old) (lines sheet.now) ≡ Err (refusal_at fault.cause fault.level n)) }
     ensures shorter { IfOk result (λ rest. length rest.now < length sheet.now) }
 {
     let (line, rest) = first_line(sheet)?;
@@ -153,7 +153,7 @@ fn read_lines(sheet: &[u8], calendar: &mut Calendar) -> Result<(), SheetRefusal>
     ensures { MatchResult result (λ _. verdict sheet.now ≡ Ok (entries_of calendar.new)) (λ e. (verdict sheet.now ≡ Err e) × (calendar.new ≡ calendar.old)) }
 {
     if sheet.len() > LONGEST {
-        return Err(Fault::from(FormError).at(1));
+        return Err(SheetFault::from(FormError).at(1));
     }
     let mut draft = Calendar::empty();
     let mut rest = sheet;
@@ -170,7 +170,7 @@ fn read_lines(sheet: &[u8], calendar: &mut Calendar) -> Result<(), SheetRefusal>
 /// Reads a sheet into a calendar, in place of all that it held; a refused sheet leaves it as it was.
 pub fn read(sheet: &[u8], calendar: &mut Calendar) -> Result<(), SheetRefusal>
     ensures equals { MatchResult result (λ _. verdict sheet.now ≡ Ok (entries_of calendar.new)) (λ e. (verdict sheet.now ≡ Err e) × (calendar.new ≡ calendar.old)) }
-    ensures only { MatchResult result (λ _. WritesOut sheet.now (entries_of calendar.new)) (λ e. Refused sheet.now e) }
+    ensures only { MatchResult result (λ _. WritesOut sheet.now (entries_of calendar.new)) (λ e. RefusedSheet sheet.now e) }
     ensures every { (ls : List Lease) → Lawful ls → sheet.now ≡ sheet_text ls → length sheet.now ≤ 16384 → (is_ok result ≡ true) × Gives ls (entries_of calendar.new) }
 {
     read_lines(sheet, calendar)

@@ -6,9 +6,9 @@
 #[cfg(test)]
 mod tests {
     use bank::Bank;
-    use block::{Block, Sync};
+    use block::{Block, Pair, Sync};
     use numbers::ClientNumber;
-    use port::{Inlet, Outlet, Store};
+    use port::{Inlet, Offer, Outlet, Store};
     use queue::{Keyed, Queue};
     use refusal::Refusal;
     use std::process::Abort;
@@ -37,6 +37,14 @@ mod tests {
         }
     }
 
+    // A pair of such blocks.
+    fn pair(first: u8, second: u8) -> Pair {
+        Pair {
+            first: data(first),
+            second: data(second),
+        }
+    }
+
     // One call to a store, with the answer that it must give.
     #[derive(Clone, Copy)]
     enum Step {
@@ -56,7 +64,7 @@ mod tests {
         match step {
             Step::Put(client, a, b, answer) => {
                 let client = ClientNumber::try_from(client)?;
-                assert_eq!(rt; store.put(client, data(a), data(b)), answer);
+                assert_eq!(rt; store.put(client, pair(a, b)), answer);
             }
             Step::Next(client, a) => {
                 let client = ClientNumber::try_from(client)?;
@@ -151,6 +159,29 @@ mod tests {
         try_steps(&rt, &mut Tape::new(&mut entry), &WITH_ONE_PLACE)?;
         let mut none: [TaggedBlock; 0] = [];
         try_steps(&rt, &mut Tape::new(&mut none), &WITHOUT_PLACES)
+    }
+
+    // Of three pairs the second is refused; the third is for another client.
+    fn try_offers<S: Store>(rt: &impl Abort, store: &mut S, refused: usize) -> Result<(), Fail> {
+        let one = ClientNumber::try_from(1)?;
+        let two = ClientNumber::try_from(2)?;
+        let offers = [(one, 11, 12), (one, 13, 14), (two, 21, 22)].map(|(client, a, b)| Offer {
+            client,
+            pair: pair(a, b),
+        });
+        assert_eq!(rt; port::put_offers(store, &offers), refused);
+        assert_eq!(rt; store.next(one), Some(data(11)));
+        assert_eq!(rt; store.next(one), Some(data(12)));
+        assert_eq!(rt; store.next(one), None);
+        Ok(())
+    }
+
+    #[test]
+    fn offers(rt: HostRuntime) -> Result<(), Fail> {
+        let mut entries = [TaggedBlock::UNUSED; 3];
+        try_offers(&rt, &mut Tape::new(&mut entries), 2)?;
+        let mut memory = [data(0); 6];
+        try_offers(&rt, &mut Bank::new(&mut memory, 3), 1)
     }
 
     fn bank_steps(

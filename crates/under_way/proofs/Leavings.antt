@@ -1,5 +1,5 @@
 -- What is left of a frame's blocks, beside the pairs in its slots.
-use Rattle.std.proofs.Common.{◌≡◌, ℕ, ◌+◌, ◌-◌, ◌<◌, ◌≤◌, List, [], ◌∷◌, ◌++◌, length, drop, Ok, Err, Some, None, refl, sym, ap, ◌∙◌, subst, arith}
+use Rattle.std.proofs.Common.{◌≡◌, ℕ, ◌+◌, ◌-◌, ◌<◌, ◌≤◌, List, [], ◌∷◌, ◌++◌, length, drop, Ok, Err, Result, Some, None, refl, sym, ap, ◌∙◌, subst, arith}
 use Rattle.std.specs.Prelude.{slice_get, slice_set}
 use Rattle.std.proofs.lemmas.List.{drop_all}
 use Rattle.std.proofs.lemmas.Bool.Decides.{nat_tests}
@@ -8,7 +8,7 @@ use Rattle.block.specs.declared.Pair.{Pair}
 use Rattle.block.specs.Whole.{Bytes}
 use Rattle.overhead.specs.Format.{Fields, overhead_bytes}
 use Rattle.payload.specs.Payloads.{pairs_of}
-use Rattle.payload.proofs.Slots.{unpacking_undone}
+use Rattle.payload.proofs.Slots.{pairs_length, unpacking_undone}
 use Rattle.frame.specs.Frames.{frame_block, frame_of}
 use Rattle.frame.specs.Places.{place_behind}
 use Rattle.frame.proofs.Frames.{frame_length}
@@ -16,6 +16,7 @@ use Rattle.frame.proofs.Steps.{leaves}
 use Rattle.whole_frame.specs.Meaning.{frame_written}
 use Rattle.under_way.specs.Departure.{Departure}
 use Rattle.under_way.specs.Leaving.{slots_answer, with_pair}
+use Rattle.under_way.specs.declared.outgoing.SlotsRefusal.{SlotsRefusal}
 use Rattle.under_way.specs.declared.outgoing.SlotsRefusal.TheVariants.{StillSending}
 
 -- a frame of which n blocks are gone
@@ -39,28 +40,18 @@ some_left o p n d h e = ap (λ (x : Departure). x.rest) (sym e) ∙ leaves (o ++
 pub sending_answer : (o p : List ℕ) (n : ℕ) (d : Departure) → n < 992 → departure o p n ≡ d → Err StillSending ≡ slots_answer d.rest
 sending_answer o p n d h e = sym (ap slots_answer (some_left o p n d h e))
 
-kept : (k : ℕ) (q : Pair) (d : Departure) (b : Block) (bs : List Block) → d.rest ≡ b ∷ bs → d ≡ with_pair k q d
-kept k q d b bs e =
-    let P : List Block → Type 0 = λ (r : List Block). of_pairs d.pairs r ≡ with_pair k q (of_pairs d.pairs r) in
-    subst P (sym e) refl
-
-pub sending_kept : (k : ℕ) (q : Pair) (o p : List ℕ) (n : ℕ) (d : Departure) → n < 992 → departure o p n ≡ d → d ≡ with_pair k q d
-sending_kept k q o p n d h e = kept k q d _ _ (some_left o p n d h e)
+pub sending_kept : (k : ℕ) (q : Pair) (o p : List ℕ) (n : ℕ) (d : Departure) → n < 992 → departure o p n ≡ d → d ≡ with_pair (slots_answer d.rest) k q d
+sending_kept k q o p n d h e = ap (λ (r : Result Unit SlotsRefusal). with_pair r k q d) (sending_answer o p n d h e)
 
 pub free_answer : (o p : List ℕ) (n : ℕ) (d : Departure) → 992 ≤ n → departure o p n ≡ d → Ok tt ≡ slots_answer d.rest
 free_answer o p n d h e = sym (ap slots_answer (between o p n d h e))
 
-written : (k : ℕ) (q : Pair) (d : Departure) → d.rest ≡ [] → of_pairs (slice_set d.pairs (k - 1) q) [] ≡ with_pair k q d
-written k q d e =
-    let P : List Block → Type 0 = λ (r : List Block). of_pairs (slice_set d.pairs (k - 1) q) [] ≡ with_pair k q (of_pairs d.pairs r) in
-    subst P (sym e) refl
-
 pub pair_written : (k : ℕ) (q : Pair) (o p r : List ℕ) (n : ℕ) (d : Departure) → 992 ≤ n → departure o p n ≡ d
-    → pairs_of r ≡ slice_set (pairs_of p) (k - 1) q → departure o r n ≡ with_pair k q d
+    → pairs_of r ≡ slice_set (pairs_of p) (k - 1) q → departure o r n ≡ with_pair (slots_answer d.rest) k q d
 pair_written k q o p r n d h e w =
-    ap (of_pairs (pairs_of r)) (all_gone (o ++ r) n h)
-    ∙ ap (λ (l : List Pair). of_pairs l []) (w ∙ ap (λ (x : Departure). slice_set x.pairs (k - 1) q) e)
-    ∙ written k q d (between o p n d h e)
+    ap (of_pairs (pairs_of r)) (all_gone (o ++ r) n h ∙ sym (between o p n d h e))
+    ∙ ap (λ (l : List Pair). of_pairs l d.rest) (w ∙ ap (λ (x : Departure). slice_set x.pairs (k - 1) q) e)
+    ∙ ap (λ (r : Result Unit SlotsRefusal). with_pair r k q d) (free_answer o p n d h e)
 
 -- ---- sending
 -- the frame that the slots hold, with its overhead
@@ -103,3 +94,7 @@ lent o w n h = ap (of_pairs (pairs_of w)) (all_gone (o ++ w) n h)
 
 pub none_while : (o p : List ℕ) (n : ℕ) (d : Departure) → n < 992 → departure o p n ≡ d → d.rest ≡ [] → ⊥
 none_while o p n d h e z = let f : [] ≡ frame_block (o ++ p) (n + 1) ∷ drop (n + 1) (frame_of (o ++ p)) = sym z ∙ some_left o p n d h e in cc
+
+-- there is a pair for each slot
+pub slots_there : (o p : List ℕ) (n : ℕ) (d : Departure) → departure o p n ≡ d → length d.pairs ≡ 480
+slots_there o p n d e = ap (λ (x : Departure). length x.pairs) (sym e) ∙ pairs_length p

@@ -28,18 +28,18 @@ is_full_end (End n) = n == 7
 is_full_end Unlawful = false
 
 -- whether a data block goes on with these blocks
-abbrev pub growing : List Block → Block → Result Unit Misfit
-growing here b = if is_data (class_of b) then (if is_data_place (length here + 1) then Ok tt else Err OtherPlace) else Err OtherClass
+abbrev pub grow_answer : List Block → Block → Result Unit Misfit
+grow_answer here b = if is_data (class_of b) then (if is_data_place (length here + 1) then Ok tt else Err OtherPlace) else Err OtherClass
 
 -- whether an end makes these blocks a whole frame
-abbrev pub finishing : List Block → Block → Result Unit Misfit
-finishing here b = if is_full_end (class_of b) then (if length here == 991 then Ok tt else Err OtherPlace) else Err OtherClass
+abbrev pub finish_answer : List Block → Block → Result Unit Misfit
+finish_answer here b = if is_full_end (class_of b) then (if length here == 991 then Ok tt else Err OtherPlace) else Err OtherClass
 
 -- the blocks so far, with this one behind them if it was taken
-abbrev pub after : Result Unit Misfit → List Block → Block → List Block
-after (Ok u) here b = here ++ (b ∷ [])
-after (Err e) here b = here
+abbrev pub blocks_after : Result Unit Misfit → List Block → Block → List Block
+blocks_after (Ok u) here b = here ++ (b ∷ [])
+blocks_after (Err e) here b = here
 
 -- the frame, if all its blocks are here
-abbrev pub whole_frame : List Block → Option (List Block)
-whole_frame here = if length here == 992 then Some here else None
+abbrev pub frame_if_whole : List Block → Option (List Block)
+frame_if_whole here = if length here == 992 then Some here else None

@@ -11,6 +11,7 @@ abbrev pub slots_answer : List Block → Result Unit SlotsRefusal
 slots_answer [] = Ok tt
 slots_answer (b ∷ rest) = Err StillSending
 
--- the pair in its slot; while blocks are still to be sent all stays
-abbrev pub with_pair : ℕ → Pair → Departure → Departure
-with_pair k pair d = elim d.rest [ [] ↦ record { pairs = slice_set d.pairs (k - 1) pair; rest = [] } | b ∷ rest ↦ d ]
+-- the pair in its slot, if it may be written
+abbrev pub with_pair : Result Unit SlotsRefusal → ℕ → Pair → Departure → Departure
+with_pair (Ok u) k pair d = record d { pairs = slice_set d.pairs (k - 1) pair }
+with_pair (Err e) k pair d = d

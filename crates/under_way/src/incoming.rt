@@ -2,10 +2,10 @@
 ghost use Rattle.std.specs.Prelude.{◌≡◌, ◌≤◌, ◌∷◌, [], length};
 ghost use Rattle.block.specs.Classes.{class_of};
 ghost use Rattle.block.specs.Fixed.{start_block};
-ghost use Rattle.under_way.specs.Coming.{after, finishing, growing, is_data, is_full_end, whole_frame};
+ghost use Rattle.under_way.specs.Coming.{blocks_after, finish_answer, grow_answer, is_data, is_full_end, frame_if_whole};
 
 use crate::whole::WholeFrame;
-use block::{Block, Class};
+use block::{Block, Class, Sync};
 use frame::place::FramePlace;
 use frame::{OverheadBytes, store_block, store_data};
 use payload::Payload;
@@ -78,9 +78,10 @@ impl Incoming {
     }
 
     /// Takes a data block behind 1 to 990 blocks; refused, all stays.
+    #[tactic(auto, using(crate::proofs::Comings::counted, crate::proofs::Comings::other_class, crate::proofs::Comings::other_place, crate::proofs::Comings::fits_next, crate::proofs::Comings::not_grown))]
     pub fn grow(&mut self, block: &Block) -> Result<(), Misfit>
-        ensures answer { result ≡ growing self.old block.now }
-        ensures blocks { self.new ≡ after (growing self.old block.now) self.old block.now }
+        ensures answer { result ≡ grow_answer self.old block.now }
+        ensures blocks { self.new ≡ blocks_after (grow_answer self.old block.now) self.old block.now }
     {
         if !is_data(block) {
             return Err(Misfit::OtherClass);
@@ -94,9 +95,10 @@ impl Incoming {
     }
 
     /// Takes an end that carries seven bytes behind 991 blocks, which makes the frame whole; refused, all stays.
+    #[tactic(auto, using(crate::proofs::Comings::counted, crate::proofs::Comings::no_end, crate::proofs::Comings::too_early, crate::proofs::Comings::ends_next, crate::proofs::Comings::after_refusal))]
     pub fn finish(&mut self, block: &Block) -> Result<(), Misfit>
-        ensures answer { result ≡ finishing self.old block.now }
-        ensures blocks { self.new ≡ after (finishing self.old block.now) self.old block.now }
+        ensures answer { result ≡ finish_answer self.old block.now }
+        ensures blocks { self.new ≡ blocks_after (finish_answer self.old block.now) self.old block.now }
     {
         if !is_full_end(block) {
             return Err(Misfit::OtherClass);
@@ -115,8 +117,9 @@ impl Incoming {
     }
 
     /// The frame, if it is whole, to be read where it lies.
+    #[tactic(auto, using(crate::proofs::Comings::not_whole))]
     pub fn whole(&self) -> Option<WholeFrame<'_>>
-        ensures { result ≡ whole_frame self.now }
+        ensures { result ≡ frame_if_whole self.now }
     {
         if self.count < 992 {
             return None;
@@ -125,11 +128,12 @@ impl Incoming {
     }
 }
 
-// Is it a data block?
+// Is it a data block? By the sync bits alone, since most blocks are, and a class asks for the type too.
+#[tactic(auto, using(crate::proofs::Comings::data_by_sync))]
 fn is_data(block: &Block) -> bool
     ensures { result ≡ is_data (class_of block.now) }
 {
-    matches!(block.class(), Class::Data)
+    matches!(block.sync, Sync::Data)
 }
 
 // Is it an end that carries seven bytes?

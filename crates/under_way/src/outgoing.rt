@@ -1,7 +1,7 @@
 //! The frame that a sender is sending. In contracts it is the pairs in its slots and the blocks that are still to send.
-ghost use Rattle.std.specs.Prelude.{◌≡◌, [], drop, replicate, slice_get, IsSome, ◌↔◌, IfSome};
+ghost use Rattle.std.specs.Prelude.{◌≡◌, [], drop, replicate, length, slice_get, IsSome, ◌↔◌, IfSome};
 ghost use Rattle.block.specs.Whole.{Bytes, WholePair};
-ghost use Rattle.numbers.specs.Range.{IsOneTo480};
+ghost use Rattle.numbers.specs.Range.{IsOneTo480, slots};
 ghost use Rattle.overhead.specs.Format.{fields_of};
 ghost use Rattle.overhead.specs.Laws.{IsOverhead};
 ghost use Rattle.payload.specs.Payloads.{pairs_of};
@@ -60,9 +60,11 @@ impl Outgoing {
     }
 
     /// Writes a pair into a slot of the next frame; refused while a frame is being sent.
+    #[tactic(auto, using(crate::proofs::Leavings::sending_answer, crate::proofs::Leavings::sending_kept, crate::proofs::Leavings::free_answer, crate::proofs::Leavings::pair_written, crate::proofs::Leavings::slots_there, payload::proofs::Slots::pairs_length))]
     pub fn write_pair(&mut self, slot: SlotNumber, pair: Pair) -> Result<(), SlotsRefusal>
         ensures answer { result ≡ slots_answer self.old.rest }
-        ensures written { self.new ≡ with_pair slot pair self.old }
+        ensures written { self.new ≡ with_pair (slots_answer self.old.rest) slot pair self.old }
+        ensures slots { length self.new.pairs ≡ slots }
     {
         if self.gone < 992 {
             return Err(SlotsRefusal::StillSending);
@@ -78,15 +80,16 @@ impl Outgoing {
         ensures between { IsSome result ↔ (self.old.rest ≡ []) }
         ensures value { IfSome result (λ p. pairs_of p.now ≡ self.old.pairs) }
     {
-        if self.gone < 992 {
+        if self.gone != 992 {
             return None;
         }
         Some(&mut self.payload)
     }
 
     /// Begins the frame that says this and carries what the slots hold; one that is still being sent is given up.
+    #[tactic(auto, using(crate::proofs::Leavings::begun))]
     pub fn begin(&mut self, overhead: Overhead)
-        ensures begun { self.new ≡ (record { pairs = self.old.pairs; rest = frame_written (fields_of overhead) self.old.pairs }) }
+        ensures begun { self.new ≡ record self.old { rest = frame_written (fields_of overhead) self.old.pairs } }
         ensures range { IsOverhead overhead }
     {
         hold_bytes(&self.payload);
@@ -95,9 +98,10 @@ impl Outgoing {
     }
 
     /// The next block, none where no frame is under way.
+    #[tactic(auto, using(crate::proofs::Leavings::none_behind, crate::proofs::Leavings::none_next, crate::proofs::Leavings::none_less))]
     pub fn next(&mut self) -> Option<Block>
         ensures first { result ≡ slice_get self.old.rest 0 }
-        ensures rest { self.new ≡ (record { pairs = self.old.pairs; rest = drop 1 self.old.rest }) }
+        ensures rest { self.new ≡ record self.old { rest = drop 1 self.old.rest } }
     {
         let place = FramePlace::behind(self.gone)?;
         self.gone += 1;

@@ -1,7 +1,7 @@
 //! A receiver's frame that is whole, read where it lies. In contracts it is the list of its 992 blocks.
 ghost use Rattle.std.specs.Prelude.{◌≡◌, ◌-◌, ◌++◌, Some, drop, slice_get, IfOk};
 ghost use Rattle.frame.specs.Frames.{carried_by, frame_of};
-ghost use Rattle.overhead.specs.Format.{answered};
+ghost use Rattle.overhead.specs.Format.{fields_answer};
 ghost use Rattle.overhead.specs.Laws.{IsOverhead};
 ghost use Rattle.numbers.specs.Range.{IsOneTo480};
 ghost use Rattle.whole_frame.specs.Meaning.{overhead_read, pairs_read};
@@ -42,7 +42,7 @@ impl<'a> WholeFrame<'a> {
 
     /// What its overhead says, or the first fault in it.
     pub fn overhead(&self) -> Result<Overhead, OverheadFault>
-        ensures read { answered result ≡ overhead_read self.now }
+        ensures read { fields_answer result ≡ overhead_read self.now }
         ensures range { IfOk result IsOverhead }
     {
         Overhead::read(self.overhead)

@@ -3,7 +3,7 @@ use Rattle.std.proofs.Common.{◌≡◌, ℕ, suc, ◌+◌, ◌*◌, ◌/◌, �
 use Rattle.std.specs.List.{flat_map}
 use Rattle.std.proofs.lemmas.Bool.{lt-ltb, le-ltb, ltb-true, ltb-false}
 use Rattle.block.specs.Whole.{Bytes}
-use Rattle.value_text.specs.Texts.{digit_value, hex_digit, spaced_byte, spaced_read, HexReadsBack}
+use Rattle.value_text.specs.Texts.{digit_value, hex_digit, spaced_byte, spaced_bytes, HexReadsBack}
 
 digit_back : (d : ℕ) (b : Bool) → ltb d 10 ≡ b → d < 16 → digit_value (hex_digit d) ≡ d
 digit_back d true e l =
@@ -19,7 +19,7 @@ byte_back b l =
     let low : b % 16 < 16 = omega arith in
     rw (digit_back (b / 16) (ltb (b / 16) 10) refl high, digit_back (b % 16) (ltb (b % 16) 10) refl low) (omega arith)
 
-spaced_back : (bs : List ℕ) → Bytes bs → spaced_read (flat_map spaced_byte bs) ≡ bs
+spaced_back : (bs : List ℕ) → Bytes bs → spaced_bytes (flat_map spaced_byte bs) ≡ bs
 spaced_back [] h = refl
 spaced_back (b ∷ bs) h = ap₂ (λ (x : ℕ) (xs : List ℕ). x ∷ xs) (byte_back b (h 0)) (spaced_back bs (λ i. h (suc i)))
 

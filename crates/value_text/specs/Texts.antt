@@ -53,8 +53,8 @@ abbrev pub SameTexts : Type 0
 SameTexts = (expected computed : List ℕ) → IsTrue (bytes_eq expected computed) ↔ (expected ≡ computed)
 
 -- a line: the value's name, what is expected, what was computed, and whether they are the same
-abbrev pub line_of : List ℕ → List ℕ → List ℕ → List ℕ
-line_of name expected computed =
+abbrev pub comparison_line : List ℕ → List ℕ → List ℕ → List ℕ
+comparison_line name expected computed =
     name ++ (codes ": expected " ++ (expected ++ (codes ", computed " ++ (computed ++ (codes ": " ++ verdict_of expected computed)))))
 
 -- the value of a hexadecimal digit
@@ -62,16 +62,16 @@ abbrev pub digit_value : ℕ → ℕ
 digit_value c = if nat_lt c 65 then c - 48 else c - 55
 
 -- the bytes of a text with a blank and two digits for each
-abbrev pub spaced_read : List ℕ → List ℕ
-spaced_read [] = []
-spaced_read (_ ∷ []) = []
-spaced_read (_ ∷ _ ∷ []) = []
-spaced_read (_ ∷ high ∷ low ∷ text) = (16 * digit_value high + digit_value low) ∷ spaced_read text
+abbrev pub spaced_bytes : List ℕ → List ℕ
+spaced_bytes [] = []
+spaced_bytes (_ ∷ []) = []
+spaced_bytes (_ ∷ _ ∷ []) = []
+spaced_bytes (_ ∷ high ∷ low ∷ text) = (16 * digit_value high + digit_value low) ∷ spaced_bytes text
 
 -- the bytes that a hexadecimal text says
-abbrev pub hex_read : List ℕ → List ℕ
-hex_read text = spaced_read (32 ∷ text)
+abbrev pub bytes_of_hex : List ℕ → List ℕ
+bytes_of_hex text = spaced_bytes (32 ∷ text)
 
 -- bytes are read back from their text, so other bytes have another text
 abbrev pub HexReadsBack : Type 0
-HexReadsBack = (bs : List ℕ) → Bytes bs → hex_read (hex_of bs) ≡ bs
+HexReadsBack = (bs : List ℕ) → Bytes bs → bytes_of_hex (hex_of bs) ≡ bs

@@ -6,7 +6,7 @@
 
 ghost use Rattle.std.specs.Prelude.{◌≡◌, IfOk, Some, string_bytes};
 ghost use Rattle.std.specs.Fmt.{WritesOnOk};
-ghost use Rattle.value_text.specs.Texts.{HexReadsBack, SameTexts, block_text, hex_of, line_of, refused_text, sync_text, verdict_of};
+ghost use Rattle.value_text.specs.Texts.{HexReadsBack, SameTexts, block_text, hex_of, comparison_line, refused_text, sync_text, verdict_of};
 
 use block::{Block, Sync};
 use refusal::Refusal;
@@ -51,7 +51,7 @@ fn verdict(expected: &str, computed: &str) -> &'static str
 
 /// A value's name, what is expected, what was computed, and whether they are the same.
 pub fn line(alloc: Global, name: &str, expected: &str, computed: &str) -> Result<String, AllocError>
-    ensures { IfOk result (λ t. string_bytes t ≡ line_of name.now expected.now computed.now) }
+    ensures { IfOk result (λ t. string_bytes t ≡ comparison_line name.now expected.now computed.now) }
 {
     let verdict = verdict(expected, computed);
     format!(in alloc; "{name}: expected {expected}, computed {computed}: {verdict}")

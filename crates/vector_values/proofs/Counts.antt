@@ -10,7 +10,7 @@ use Rattle.packet.specs.Answers.{leaves, write_answer}
 use Rattle.packet.specs.Format.{blocks_of, in_range}
 use Rattle.packet.proofs.Blocks.{length_blocks_of}
 use Rattle.message.specs.declared.Kind.{Kind}
-use Rattle.message.specs.Written.{answer, written}
+use Rattle.message.specs.Written.{message_answer, output_with_message}
 use Rattle.value_text.specs.Texts.{block_text}
 use Rattle.vector_values.specs.Values.{end_type, idles, made_text, packet_text, place_text}
 
@@ -36,12 +36,12 @@ packet_is p w n end out idle h k i o e =
     ∙ ap (λ (v : Result ℕ Refusal). packet_text v left) (sym k ∙ h)
 
 pub place_is : (k : Kind) (vs : List ℕ) (w : Result ℕ Refusal) (n place : ℕ) (out : List Block) (idle d : Block)
-    → w ≡ answer k vs (replicate 17 idle) → w ≡ Ok n → idle ≡ idle_block → out ≡ written k vs (replicate 17 idle) → place < n → place < length out
-    → block_text (get_or out place d) ≡ place_text (answer k vs (idles 17)) (written k vs (idles 17)) place
+    → w ≡ message_answer k vs (replicate 17 idle) → w ≡ Ok n → idle ≡ idle_block → out ≡ output_with_message k vs (replicate 17 idle) → place < n → place < length out
+    → block_text (get_or out place d) ≡ place_text (message_answer k vs (idles 17)) (output_with_message k vs (idles 17)) place
 place_is k vs w n place out idle d h o i e l m =
-    let left : List Block = written k vs (idles 17) in
-    let same : out ≡ left = e ∙ ap (λ (b : Block). written k vs (replicate 17 b)) i in
-    let answered : w ≡ answer k vs (idles 17) = h ∙ ap (λ (b : Block). answer k vs (replicate 17 b)) i in
+    let left : List Block = output_with_message k vs (idles 17) in
+    let same : out ≡ left = e ∙ ap (λ (b : Block). output_with_message k vs (replicate 17 b)) i in
+    let answered : w ≡ message_answer k vs (idles 17) = h ∙ ap (λ (b : Block). message_answer k vs (replicate 17 b)) i in
     ap block_text (get_or_default out place d idle_block m ∙ ap (λ (bs : List Block). get_or bs place idle_block) same)
     ∙ ap (λ (b : Bool). cond b (block_text (get_or left place idle_block)) (codes "no block")) (sym (lt-ltb place n l))
     ∙ ap (λ (v : Result ℕ Refusal). place_text v left place) (sym o ∙ answered)

@@ -14,7 +14,7 @@ use Rattle.frame.specs.SlotStarts.{slot_start}
 use Rattle.packet.specs.Answers.{leaves, write_answer}
 use Rattle.packet.specs.Format.{blocks_of}
 use Rattle.message.specs.declared.Kind.{Kind}
-use Rattle.message.specs.Written.{answer, written}
+use Rattle.message.specs.Written.{message_answer, output_with_message}
 use Rattle.value_text.specs.Texts.{block_text, hex_of, refused_text}
 
 -- what an overhead can say: entry 0, no client, or a client number, and a frame number
@@ -23,9 +23,9 @@ checked_fields entry frame =
     if nat_le entry 480 then if nat_le 480 frame then Err OutOfRange else Ok (overhead entry frame) else Err OutOfRange
 
 -- what is said by the overhead that is made
-abbrev pub said : Result Overhead Refusal → Result Fields Refusal
-said (Ok made) = Ok (fields_of made)
-said (Err cause) = Err cause
+abbrev pub made_fields : Result Overhead Refusal → Result Fields Refusal
+made_fields (Ok made) = Ok (fields_of made)
+made_fields (Err cause) = Err cause
 
 -- the bytes of an overhead
 abbrev pub written_overhead : Result Fields Refusal → List ℕ
@@ -80,4 +80,4 @@ place_text (Err cause) blocks place = refused_text cause
 
 -- the block at a place of what `message::write` makes, in an output of the most blocks that a message has
 abbrev pub written_message : Kind → List ℕ → ℕ → List ℕ
-written_message k vs place = place_text (answer k vs (idles 17)) (written k vs (idles 17)) place
+written_message k vs place = place_text (message_answer k vs (idles 17)) (output_with_message k vs (idles 17)) place

@@ -7,10 +7,10 @@
 ghost use Rattle.std.specs.Prelude.{◌≡◌, ◌≤◌, length, IfOk, Ok, Err, string_bytes};
 ghost use Rattle.bits.specs.Bits.{field};
 ghost use Rattle.crc.specs.Remainder.{remainder};
-ghost use Rattle.numbers.specs.Range.{checked};
+ghost use Rattle.numbers.specs.Range.{checked_number};
 ghost use Rattle.overhead.specs.Format.{fields_of, read_bytes};
 ghost use Rattle.value_text.specs.Texts.{seven_digits};
-ghost use Rattle.vector_values.specs.Values.{checked_fields, end_type, made_text, read_overhead, said, slot_text, written_message, written_overhead, written_packet};
+ghost use Rattle.vector_values.specs.Values.{checked_fields, end_type, made_text, read_overhead, made_fields, slot_text, written_message, written_overhead, written_packet};
 
 use block::Block;
 use crc::Generator;
@@ -30,7 +30,7 @@ const MESSAGE_BLOCKS: usize = 17;
 // By entry, as the tables of `vectors` write it; `from_entry` is where 0 becomes none.
 // The overhead that announces a client, or none at entry 0.
 fn overhead_of(entry: u16, frame: u16) -> Result<Overhead, Refusal>
-    ensures { said result ≡ checked_fields entry frame }
+    ensures { made_fields result ≡ checked_fields entry frame }
 {
     let announced = ClientNumber::from_entry(entry)?;
     let frame = FrameNumber::try_from(frame)?;
@@ -80,7 +80,7 @@ pub fn overhead_read(alloc: Global, bytes: &[u8; 7]) -> Result<String, AllocErro
 
 /// Where `frame::slot_start` says that a slot begins.
 pub fn slot_text(alloc: Global, slot: u16) -> Result<String, AllocError>
-    ensures { IfOk result (λ t. string_bytes t ≡ slot_text (checked slot)) }
+    ensures { IfOk result (λ t. string_bytes t ≡ slot_text (checked_number slot)) }
 {
     match SlotNumber::try_from(slot) {
         Ok(slot) => {

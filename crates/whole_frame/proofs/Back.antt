@@ -15,8 +15,8 @@ use Rattle.overhead.proofs.Coding.{coded as overhead_coded, overhead_seven}
 use Rattle.frame.specs.Frames.{carried_by, frame_block, frame_of}
 use Rattle.frame.proofs.Frames.{frame_at, frame_carries}
 use Rattle.whole_frame.specs.Meaning.{content_with, frame_read, frame_written, overhead_read, pairs_read}
-use Rattle.whole_frame.specs.Laws.{Altered, Coded, Sendable}
-use Rattle.whole_frame.proofs.Payloads.{pairs_back}
+use Rattle.whole_frame.specs.Laws.{Altered, FramesCoded, Sendable}
+use Rattle.payload.proofs.Payloads.{pairs_back}
 use Rattle.whole_frame.proofs.Shape.{written_shaped, written_whole}
 
 -- a frame's overhead and pairs, read where they lie
@@ -64,5 +64,5 @@ seen f pairs came s t =
     ∙ head_wrong t.first t.other t.rest WrongRemainder t.eight
     (law.few (take 7 t.other.bytes) (length-take-le 7 t.other.bytes (omega (arith, t.eight))) some few)
 
-pub coded : Coded
+pub coded : FramesCoded
 coded = record { shape = λ f pairs s. written_shaped f pairs; whole = λ f pairs s. written_whole f pairs; back = back; seen = seen }

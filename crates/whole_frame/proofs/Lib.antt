@@ -1,4 +1,3 @@
-pub mod Payloads
 pub mod Shape
 pub mod Back
 pub mod Only

@@ -12,7 +12,7 @@ use Rattle.overhead.proofs.Coding.{in_range_read}
 use Rattle.frame.specs.Frames.{carried_by}
 use Rattle.whole_frame.specs.Meaning.{Content, content_with, frame_read, overhead_read, pairs_read}
 use Rattle.whole_frame.specs.Laws.{OnlySendable, SomeSendable}
-use Rattle.whole_frame.proofs.Payloads.{pairs_whole}
+use Rattle.payload.proofs.Payloads.{pairs_whole}
 
 -- what an answer of both was read from
 record Beside (pairs : List Pair) (r : Result Fields OverheadFault) (c : Content) : Type 0 where

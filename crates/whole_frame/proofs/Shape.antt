@@ -22,7 +22,7 @@ use Rattle.frame.proofs.Carried.{frame_data}
 use Rattle.frame.proofs.Frames.{frame_at, frame_length, frame_shaped}
 use Rattle.whole_frame.specs.Meaning.{frame_written}
 use Rattle.whole_frame.specs.Laws.{Altered, AlteredShaped}
-use Rattle.whole_frame.proofs.Payloads.{payload_is_bytes, payload_length}
+use Rattle.payload.proofs.Payloads.{payload_is_bytes, payload_length}
 
 pub written_shaped : (f : Fields) (pairs : List Pair) → Shaped (frame_written f pairs)
 unfolding frame_written

@@ -6,14 +6,14 @@ use Rattle.block.specs.declared.Pair.{Pair}
 use Rattle.block.specs.Whole.{Whole, WholePair}
 use Rattle.crc.specs.Laws.{weight}
 use Rattle.overhead.specs.Format.{Fields}
-use Rattle.overhead.specs.Laws.{InRange, changes}
+use Rattle.overhead.specs.Laws.{FieldsInRange, changes}
 use Rattle.overhead.specs.declared.OverheadFault.TheVariants.{WrongRemainder}
 use Rattle.frame.specs.Frames.{Shaped}
 use Rattle.whole_frame.specs.Meaning.{Content, frame_read, frame_written}
 
 -- what a program can send
 pub record Sendable (f : Fields) (pairs : List Pair) : Type 0 where
-  pub fields : InRange f
+  pub fields : FieldsInRange f
   pub many : length pairs ≡ 480
   pub whole : All WholePair pairs
 
@@ -32,7 +32,7 @@ pub record Altered (sent came : List Block) : Type 0 where
   pub few : weight (changes (take 7 head.bytes) (take 7 other.bytes)) ≤ 3
 
 -- the frames of all fields in range and all whole pairs: their shape and blocks, what is read from them, and few changes are seen
-pub record Coded : Type 0 where
+pub record FramesCoded : Type 0 where
   pub shape : (f : Fields) (pairs : List Pair) → Sendable f pairs → Shaped (frame_written f pairs)
   pub whole : (f : Fields) (pairs : List Pair) → Sendable f pairs → All Whole (frame_written f pairs)
   pub back : (f : Fields) (pairs : List Pair) → Sendable f pairs → frame_read (frame_written f pairs) ≡ Ok (record { fields = f; pairs = pairs })

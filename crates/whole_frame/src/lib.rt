@@ -4,10 +4,10 @@
 
 ghost use Rattle.std.specs.Prelude.{◌≡◌, IfOk, drop};
 ghost use Rattle.frame.specs.Frames.{carried_by};
-ghost use Rattle.overhead.specs.Format.{answered, fields_of};
+ghost use Rattle.overhead.specs.Format.{fields_answer, fields_of};
 ghost use Rattle.overhead.specs.Laws.{IsOverhead};
 ghost use Rattle.payload.specs.Payloads.{pairs_of, payload_of};
-ghost use Rattle.whole_frame.specs.Laws.{AlteredShaped, Coded, OnlySendable, SomeSendable};
+ghost use Rattle.whole_frame.specs.Laws.{AlteredShaped, FramesCoded, OnlySendable, SomeSendable};
 ghost use Rattle.whole_frame.specs.Meaning.{content_with, frame_read, frame_written};
 
 use block::{Block, Pair};
@@ -18,7 +18,7 @@ use payload::{Payload, pack};
 /// Frames are read as what they were written from.
 #[tactic(auto, using(crate::proofs::Back::coded, crate::proofs::Only::some_sendable))]
 pub fn frames_are_coded()
-    ensures coded { Coded }
+    ensures coded { FramesCoded }
     ensures altered { AlteredShaped }
     ensures only { OnlySendable }
     ensures some { SomeSendable }
@@ -43,7 +43,7 @@ pub fn write_frame(
 /// Reads the 992 blocks of a frame: what its overhead says, or its first fault. The pairs stay where they lie in the payload, also behind a
 /// fault.
 pub fn read_frame(blocks: &[Block; 992], payload: &mut Payload) -> Result<Overhead, OverheadFault>
-    ensures read { content_with (pairs_of payload.new) (answered result) ≡ frame_read blocks.now }
+    ensures read { content_with (pairs_of payload.new) (fields_answer result) ≡ frame_read blocks.now }
     ensures payload { payload.new ≡ drop 7 (carried_by blocks.now) }
     ensures range { IfOk result IsOverhead }
 {

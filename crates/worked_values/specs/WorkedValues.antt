@@ -8,7 +8,7 @@ use Rattle.overhead.specs.Laws.{WorkedOverheads}
 use Rattle.frame.specs.SlotStarts.{SlotStarts}
 use Rattle.packet.specs.Format.{SixtyFourBytes}
 use Rattle.message.specs.declared.Kind.TheVariants.{OneDm}
-use Rattle.message.specs.Values.{filled}
+use Rattle.message.specs.Values.{filled_values}
 use Rattle.message.specs.Written.{message_blocks, PayloadTypeEleven}
 
 -- a message block by its head byte and two value bytes
@@ -18,9 +18,9 @@ carrying head first second = record { sync = Control; bytes = 0x4B ∷ head ∷ 
 -- both one-way delay messages of ITU-T G.8312, Appendix II: the writer fills in the remainders E0 95 and 50 44
 abbrev pub DelayMessages : Type 0
 DelayMessages =
-    (message_blocks OneDm (filled (0x37 ∷ 0x9A ∷ 0x05 ∷ 0x51 ∷ 0x91 ∷ 0x52 ∷ 0x35 ∷ 0x98 ∷ 0x00 ∷ 0x00 ∷ []))
+    (message_blocks OneDm (filled_values (0x37 ∷ 0x9A ∷ 0x05 ∷ 0x51 ∷ 0x91 ∷ 0x52 ∷ 0x35 ∷ 0x98 ∷ 0x00 ∷ 0x00 ∷ []))
     ≡ carrying 0xD5 0x37 0x9A ∷ carrying 0xD4 0x05 0x51 ∷ carrying 0xD4 0x91 0x52 ∷ carrying 0xD4 0x35 0x98 ∷ carrying 0xD6 0xE0 0x95 ∷ [])
-    × (message_blocks OneDm (filled (0x35 ∷ 0x98 ∷ 0x14 ∷ 0x75 ∷ 0x91 ∷ 0x50 ∷ 0x35 ∷ 0x98 ∷ 0x00 ∷ 0x00 ∷ []))
+    × (message_blocks OneDm (filled_values (0x35 ∷ 0x98 ∷ 0x14 ∷ 0x75 ∷ 0x91 ∷ 0x50 ∷ 0x35 ∷ 0x98 ∷ 0x00 ∷ 0x00 ∷ []))
     ≡ carrying 0xD5 0x35 0x98 ∷ carrying 0xD4 0x14 0x75 ∷ carrying 0xD4 0x91 0x50 ∷ carrying 0xD4 0x35 0x98 ∷ carrying 0xD6 0x50 0x44 ∷ [])
 
 -- Appendix IV: the field 101 and 36 zeros leaves 0101011

@@ -1,20 +1,17 @@
-use Rattle.std.proofs.Common.{◌≡◌, ℕ, List, ◌++◌, take, drop, sym, ap, ◌∙◌, arith}
+use Rattle.std.proofs.Common.{◌≡◌, ℕ, List, ◌++◌, take, drop, ap, ◌∙◌, arith}
 use Rattle.std.proofs.lemmas.List.{length-drop, take_all}
 use Rattle.bits.specs.Splices.{splice}
-use Rattle.frame.specs.Frames.{stored}
-use Rattle.frame.proofs.Storing.{none_stored, past_stored}
+use Rattle.frame.specs.Frames.{carried_after}
+use Rattle.frame.proofs.Storing.{past_stored}
 use Rattle.frame.proofs.store_block.Goals as goal
 
 pub returns-then-n-eq992-clause-kept : goal.returns-then-n-eq992-clause-kept
 returns-then-n-eq992-clause-kept c =
-    let o : List ℕ = c.store_data.new.overhead in
-    let p : List ℕ = c.store_data.new.payload in
+    let o : List ℕ = c.args.overhead.now in
+    let p : List ℕ = c.args.payload.now in
     let bs : List ℕ = c.args.block.now.bytes in
     let e : 992 ≡ c.args.place = omega arith in
     let t : take 7 (drop 1 bs) ≡ drop 1 bs = take_all 7 (drop 1 bs) (omega (arith, length-drop 1 c.args.block.now.bytes)) in
     ap (λ (l : List ℕ). o ++ l) (c.store.ensures ∙ ap (λ (l : List ℕ). splice 7913 l p) t)
-    ∙ past_stored o p (drop 1 bs) 7913 7920 c.store_data.ensures.long.0 (omega arith)
-    ∙ ap (splice 7920 (drop 1 bs))
-    (none_stored c.position-n.result bs (o ++ p) (c.args.overhead.now ++ c.args.payload.now) c.store_data.ensures.kept
-    (sym c.store_data.ensures.answer ∙ c.if-store_data.false))
-    ∙ ap (λ (n : ℕ). stored n bs (c.args.overhead.now ++ c.args.payload.now)) e
+    ∙ past_stored o p (drop 1 bs) 7913 7920 c.told-overhead (omega arith)
+    ∙ ap (λ (n : ℕ). carried_after n bs (o ++ p)) e

@@ -2,7 +2,7 @@ use Rattle.std.proofs.Common.{◌≡◌, ℕ, ◌+◌, ◌<◌, List, ◌++◌, 
 use Rattle.std.proofs.lemmas.List.{get_or_default}
 use Rattle.block.specs.declared.Block.{Block}
 use Rattle.block.specs.Fixed.{start_block}
-use Rattle.frame.specs.Frames.{stored, stored_from}
+use Rattle.frame.specs.Frames.{carried_after, carried_after_all}
 use Rattle.frame.proofs.Carried.{blank}
 use Rattle.frame.proofs.Frames.{stored_all, stored_carried, stored_more}
 use Rattle.frame.proofs.take_apart.Goals as goal
@@ -14,12 +14,12 @@ loop-i-preserved c =
     let F : List ℕ = c.loop-i.overhead ++ c.loop-i.payload in
     let within : c.loop-i.i < length c.args.blocks.now = omega arith in
     let b : get_or bs i blank ≡ get_or bs i start_block = get_or_default bs i blank start_block within in
-    let one : c.store_block.new.overhead ++ c.store_block.new.payload ≡ stored (i + 1) (get_or bs i start_block).bytes F =
-    c.store_block.ensures.kept ∙ ap (λ (n : ℕ). stored n (get_or bs i blank).bytes F) c.of_index.ensures
-    ∙ ap (λ (x : Block). stored (i + 1) x.bytes F) b in (
+    let one : c.store_block.new.overhead ++ c.store_block.new.payload ≡ carried_after (i + 1) (get_or bs i start_block).bytes F =
+    c.store_block.ensures.kept ∙ ap (λ (n : ℕ). carried_after n (get_or bs i blank).bytes F) c.of_index.ensures
+    ∙ ap (λ (x : Block). carried_after (i + 1) x.bytes F) b in (
       c.store_block.array_long,
       c.store_block.array_long2,
-      ap (λ (l : List ℕ). stored_from (i + 1 + 1) (drop (i + 1) bs) l) one ∙ sym (stored_more bs i F within) ∙ c.loop-i.invariant.2,
+      ap (λ (l : List ℕ). carried_after_all (i + 1 + 1) (drop (i + 1) bs) l) one ∙ sym (stored_more bs i F within) ∙ c.loop-i.invariant.2,
       below_more (λ j. length (get_or bs j start_block).bytes ≡ 8) i c.loop-i.invariant.3
           (ap (λ (x : Block). length x.bytes) (sym b) ∙ c.store_block.ensures.eight),
     )

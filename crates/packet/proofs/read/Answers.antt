@@ -1,4 +1,4 @@
-use Rattle.std.proofs.Common.{◌≡◌, Err, length, refl, sym, ap, ◌∙◌}
+use Rattle.std.proofs.Common.{◌≡◌, Err, length, refl, sym, ap, ◌∙◌, arith, length-drop}
 use Rattle.std.proofs.lemmas.Option.{MatchOption-at_some}
 use Rattle.std.proofs.lemmas.Result.{err_from_is_err_and}
 use Rattle.refusal.specs.declared.Refusal.TheVariants.{NoPacket}
@@ -11,7 +11,7 @@ returns-in_err-behind c =
     let p = err_from_is_err_and c.from_residual.result c.from_residual.ensures.1 in
     let is : c.from_residual.result ≡ Err NoPacket = p.1 ∙ ap Err (p.2 ∙ none.1) in
     let a = is ∙ answer_none c.args.blocks.now (length c.args.out.now) (none_unopened c.args.blocks.now (sym none.0)) in
-    record { answer = a; output = rw is refl; back = given_back c.args.blocks.now c.args.out.now _ _ a (rw is refl) }
+    record { answer = a; output = rw is refl; used = rw is tt; back = given_back c.args.blocks.now c.args.out.now _ _ a (rw is refl) }
 
 pub returns-in_err-extent : goal.returns-in_err-extent
 returns-in_err-extent c =
@@ -20,7 +20,7 @@ returns-in_err-extent c =
     let p = err_from_is_err_and c.from_residual-in_err-extent.result c.from_residual-in_err-extent.ensures.1 in
     let is : c.from_residual-in_err-extent.result ≡ Err NoPacket = p.1 ∙ ap Err (p.2 ∙ none.1) in
     let a = is ∙ answer_none c.args.blocks.now (length c.args.out.now) (none_behind c.args.blocks.now _ (sym o.0) o.1 none.0) in
-    record { answer = a; output = rw is refl; back = given_back c.args.blocks.now c.args.out.now _ _ a (rw is refl) }
+    record { answer = a; output = rw is refl; used = rw is tt; back = given_back c.args.blocks.now c.args.out.now _ _ a (rw is refl) }
 
 pub returns-then-out-bytes : goal.returns-then-out-bytes
 returns-then-out-bytes c =
@@ -28,7 +28,7 @@ returns-then-out-bytes c =
     let s = MatchOption-at_some _ _ _ c.in_ok-extent.ensures.ok_part c.find_end.ensures in
     let a = answer_short c.args.blocks.now _ _ _ (length c.args.out.now)
     (found_behind c.args.blocks.now _ _ _ (sym o.0) o.1 s) s.long c.if-out-bytes.true in
-    record { answer = a; output = refl; back = given_back c.args.blocks.now c.args.out.now _ _ a refl }
+    record { answer = a; output = refl; used = tt; back = given_back c.args.blocks.now c.args.out.now _ _ a refl }
 
 pub returns : goal.returns
 returns c =
@@ -36,5 +36,5 @@ returns c =
     let s = MatchOption-at_some _ _ _ c.in_ok-extent.ensures.ok_part c.find_end.ensures in
     let f = found_behind c.args.blocks.now _ _ _ (sym o.0) o.1 s in
     let a = answer_read c.args.blocks.now _ _ _ (length c.args.out.now) f s.long c.if-out-bytes.false in
-    let o = output_read c.args.blocks.now _ _ _ (length c.args.out.now) f s.long c.args.out.now c.copy_bytes.new.out c.copy_bytes.ensures in
-    record { answer = a; output = o; back = given_back c.args.blocks.now c.args.out.now c.copy_bytes.new.out _ a o }
+    let bytes = output_read c.args.blocks.now _ _ _ (length c.args.out.now) f s.long c.args.out.now c.copy_bytes.new.out c.copy_bytes.ensures in
+    record { answer = a; output = bytes; used = omega (arith, s.inside, ap length o.1, length-drop 1 c.args.blocks.now); back = given_back c.args.blocks.now c.args.out.now c.copy_bytes.new.out _ a bytes }

@@ -1,7 +1,7 @@
 use Rattle.std.proofs.Common.{◌≡◌, ℕ, List, sym, ap, ◌∙◌, subst, arith}
 use Rattle.std.specs.List.{All}
 use Rattle.block.specs.Whole.{WholePair}
-use Rattle.payload.proofs.Payloads.{all_whole}
+use Rattle.payload.proofs.Payloads.{pairs_whole}
 use Rattle.payload.specs.Payloads.{pairs_of, payload_of}
 use Rattle.std.proofs.lemmas.List.{length-set}
 use Rattle.payload.proofs.Slots.{blank, pair_at_is, pairs_are, unpacked_two, unpacking_undone}
@@ -26,6 +26,6 @@ returns c =
     pairs_are c.loop-two.pairs p blank c.loop-two.invariant.0 (λ i l. c.loop-two.invariant.1 i (omega arith)) in
     record {
       made = made;
-      whole = subst (All WholePair) (sym made) (all_whole p);
+      whole = subst (All WholePair) (sym made) (pairs_whole p);
       undone = ap payload_of made ∙ unpacking_undone p c.told-payload c.fits-payload;
     }

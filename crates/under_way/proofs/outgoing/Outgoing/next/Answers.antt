@@ -1,18 +1,7 @@
-use Rattle.std.proofs.Common.{◌≡◌, ◌+◌, ◌<◌, ◌++◌, Some, sym, ap, ◌∙◌}
+use Rattle.std.proofs.Common.{◌≡◌, ℕ, ◌+◌, ◌<◌, ◌++◌, Some, sym, ap, ◌∙◌, arith}
 use Rattle.frame.specs.Frames.{frame_block}
-use Rattle.under_way.proofs.Leavings.{none_behind, none_less, none_next, one_less, one_next, some_behind}
+use Rattle.under_way.proofs.Leavings.{one_less, one_next, some_behind}
 use Rattle.under_way.proofs.outgoing.Outgoing.next.Goals as goal
-
-pub returns-in_err-place-clause-first : goal.returns-in_err-place-clause-first
-returns-in_err-place-clause-first c =
-    c.from_residual.ensures
-    ∙ none_next c.self.inside.overhead c.self.inside.payload c.self.inside.gone c.args.self.now
-    (none_behind c.self.inside.gone (sym c.behind.ensures ∙ c.in_err-place.was)) c.self.view_is
-
-pub returns-in_err-place-clause-rest : goal.returns-in_err-place-clause-rest
-returns-in_err-place-clause-rest c =
-    none_less c.self.inside.overhead c.self.inside.payload c.self.inside.gone c.args.self.now
-    (none_behind c.self.inside.gone (sym c.behind.ensures ∙ c.in_err-place.was)) c.self.view_is
 
 pub returns-clause-first : goal.returns-clause-first
 returns-clause-first c =

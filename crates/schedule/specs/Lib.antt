@@ -1,0 +1,2 @@
+pub mod Cycle
+pub mod Laws

@@ -1,0 +1,14 @@
+use Rattle.sending.proofs.Lives.{refused_keeps}
+use Rattle.sending.proofs.Deliveries.{messages_sent, messages_on_time}
+use Rattle.sending.proofs.Opportunities.{first_starts}
+use Rattle.sending.proofs.Ends.{messages_end}
+use Rattle.sending.proofs.laws.the_messages.Goals as goal
+
+pub returns : goal.returns
+returns c = record {
+  refused = refused_keeps;
+  sent = messages_sent;
+  on_time = messages_on_time;
+  first = first_starts;
+  end = messages_end;
+}

@@ -1,0 +1,9 @@
+pub mod Frames
+pub mod Blocks
+pub mod Laid
+pub mod Messages
+pub mod Sender
+pub mod Life
+pub mod LineLaws
+pub mod ClientLaws
+pub mod MessageLaws

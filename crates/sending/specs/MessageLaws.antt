@@ -1,0 +1,134 @@
+-- What becomes of the messages that are left, in every life of a sender.
+use Rattle.std.specs.Prelude.{◌≡◌, ℕ, ◌+◌, ◌*◌, ◌/◌, ◌%◌, ◌<◌, ◌≤◌, Bool, true, false, IsTrue, if◌then◌else◌, not, ◌&&◌, List, [], ◌∷◌, ◌++◌, Some, None, Option, Err, length, take, ◌==◌}
+use Rattle.std.specs.List.{All, flat_map}
+use Rattle.block.specs.declared.Block.{Block}
+use Rattle.refusal.specs.declared.Refusal.{Refusal}
+use Rattle.message.specs.declared.Kind.{Kind}
+use Rattle.schedule.specs.declared.Item.{Item}
+use Rattle.schedule.specs.declared.Item.TheVariants.{Frame, Idle, Basic, Protection, Verification, ClientSignal, Delay, Spare}
+use Rattle.schedule.specs.Cycle.{item_at, low_priority_item, protection_item, round_items}
+use Rattle.sending.specs.Blocks.{is_idle_block}
+use Rattle.sending.specs.Messages.{same_sort}
+use Rattle.waiting.specs.Messages.{MessageToSend, message_to_send, waits}
+use Rattle.waiting.specs.declared.Sort.{Sort}
+use Rattle.waiting.specs.declared.Sort.TheVariants.{Delay as delays, Protection as protections}
+use Rattle.sending.specs.Sender.{Made, State, waiting_of, accepted_message, leave_answer, state_after_leave}
+use Rattle.sending.specs.Life.{Call, Life, LineItem, frame, gap, made, followed, send, leave, state_of, items, life_and}
+
+-- a refused leaving leaves the sender as it was
+abbrev pub RefusedKeeps : Type 0
+RefusedKeeps = (s : State) (kind : Option Kind) (values : List ℕ) (cause : Refusal) → leave_answer s kind values ≡ Err cause → state_after_leave s kind values ≡ s
+
+-- the opportunities of a sort, counted from 0 without end, and the items at which they stand:
+-- a round has 13 for delay messages, low priority opportunities 19 to 31; every other cycle has one for APS
+abbrev pub opportunity_item : Sort → ℕ → ℕ
+opportunity_item delays k = low_priority_item (k / 13) (19 + k % 13)
+opportunity_item protections k = protection_item k
+
+abbrev pub is_opportunity : Sort → Item → Bool
+is_opportunity delays Frame = false
+is_opportunity delays Idle = false
+is_opportunity delays (Basic mark) = false
+is_opportunity delays Protection = false
+is_opportunity delays (Verification block) = false
+is_opportunity delays ClientSignal = false
+is_opportunity delays (Delay block) = true
+is_opportunity delays Spare = false
+is_opportunity protections Frame = false
+is_opportunity protections Idle = false
+is_opportunity protections (Basic mark) = false
+is_opportunity protections Protection = true
+is_opportunity protections (Verification block) = false
+is_opportunity protections ClientSignal = false
+is_opportunity protections (Delay block) = false
+is_opportunity protections Spare = false
+
+-- a delay message starts at opportunity 19 alone, an APS message at any
+abbrev pub may_start : Sort → ℕ → Bool
+may_start delays k = k % 13 == 0
+may_start protections k = true
+
+-- the first opportunity at which a message may start that is left once n items have begun
+abbrev pub first_start : Sort → ℕ → ℕ
+first_start delays n = 13 * ((n + 5879) / round_items)
+first_start protections n = (n + 94) / 130
+
+pub record IsFirstStart (sort : Sort) (n k : ℕ) : Type 0 where
+  pub starts : IsTrue (may_start sort k)
+  pub to_come : n ≤ opportunity_item sort k
+  pub first : (j : ℕ) → j < k → IsTrue (may_start sort j) → opportunity_item sort j < n
+
+abbrev pub FirstStarts : Type 0
+FirstStarts = (sort : Sort) (n : ℕ) → IsFirstStart sort n (first_start sort n)
+
+-- a block on the line, with the number of the item that it is
+pub record BlockAt : Type 0 where
+  pub item : ℕ
+  pub block : Block
+
+-- blocks at the opportunities of a sort one after another, from opportunity k on
+unfoldable pub in_a_row : Sort → ℕ → List Block → List BlockAt
+in_a_row sort k [] = []
+in_a_row sort k (b ∷ bs) = record { item = opportunity_item sort k; block = b } ∷ in_a_row sort (k + 1) bs
+
+-- what the line has at the opportunities of a sort, idles aside, where the items begin with item i
+abbrev pub found_at_item : Sort → ℕ → LineItem → List BlockAt
+found_at_item sort i (frame f) = []
+found_at_item sort i (gap b) = if is_opportunity sort (item_at i) && not (is_idle_block b) then record { item = i; block = b } ∷ [] else []
+
+unfoldable pub found_on_line : Sort → ℕ → List LineItem → List BlockAt
+found_on_line sort i [] = []
+found_on_line sort i (x ∷ xs) = found_at_item sort i x ++ found_on_line sort (i + 1) xs
+
+-- a message that was accepted: how many items had begun when it was left, and its blocks
+pub record Left : Type 0 where
+  pub after : ℕ
+  pub blocks : List Block
+
+abbrev pub message_left : Sort → ℕ → Option MessageToSend → List Left
+message_left sort n None = []
+message_left sort n (Some x) = if same_sort sort x.sort then record { after = n; blocks = x.blocks } ∷ [] else []
+
+abbrev pub left_by_call : Sort → State → ℕ → Call → List Left
+left_by_call sort s n (send waiting) = []
+left_by_call sort s n (leave kind values) = message_left sort n (accepted_message s (message_to_send kind values))
+
+-- the messages of a sort that were accepted, in the order of leaving
+unfoldable pub messages_left : Sort → Made → Life → List Left
+messages_left sort m made = []
+messages_left sort m (followed l c) = messages_left sort m l ++ left_by_call sort (state_of m l) (length (items m l)) c
+
+-- messages sent whole: each from the first opportunity on at which it may start
+abbrev pub whole_messages : Sort → List Left → List BlockAt
+whole_messages sort = flat_map (λ (x : Left). in_a_row sort (first_start sort x.after) x.blocks)
+
+-- what the line has at the opportunities of a sort, and then some blocks at items still to come, are the messages left, whole, once each, in order
+abbrev pub MessagesOnTime : Type 0
+MessagesOnTime =
+    (sort : Sort) (m : Made) (l : Life)
+    → ((rest : List BlockAt) × (
+    (found_on_line sort 0 (items m l) ++ rest ≡ whole_messages sort (messages_left sort m l))
+    × All (λ (x : BlockAt). length (items m l) ≤ x.item) rest))
+
+-- all but the last are whole on the line, and the last is too unless it waits: then the line has the blocks of it that are gone
+abbrev pub MessagesSent : Type 0
+MessagesSent =
+    (sort : Sort) (m : Made) (l : Life)
+    → let d = waiting_of (state_of m l) sort in
+    ((done : List Left) × ((last : Left) × (
+    (messages_left sort m l ≡ done ++ (if waits d then last ∷ [] else []))
+    × (found_on_line sort 0 (items m l) ≡ whole_messages sort done ++ (if waits d then in_a_row sort (first_start sort last.after) (take d.gone last.blocks) else [])))))
+
+-- how many items it takes at most until a message that waits is whole on the line
+abbrev pub longest_wait : Sort → ℕ
+longest_wait delays = 128 * 65 + 12 * 130
+longest_wait protections = 2 * 130
+
+-- of all messages left until so many items more have begun, only one that was left later can wait
+abbrev pub MessagesEnd : Type 0
+MessagesEnd =
+    (sort : Sort) (m : Made) (l : Life) (cs : List Call)
+    → IsTrue (waits (waiting_of (state_of m l) sort))
+    → length (items m l) + longest_wait sort ≤ length (items m (life_and l cs))
+    → length (messages_left sort m l) + (if waits (waiting_of (state_of m (life_and l cs)) sort) then 1 else 0)
+    ≤ length (messages_left sort m (life_and l cs))
