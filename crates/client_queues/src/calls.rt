@@ -102,6 +102,19 @@ impl Inlet for ClientQueues {
     }
 }
 
+/// An inlet at which nothing waits for any client.
+#[derive(Clone, Copy, Debug, PartialEq, Eq)]
+pub struct NothingWaits;
+
+impl Inlet for NothingWaits {
+    ghost waiting = { λ _. none_wait };
+
+    #[tactic(auto, using(port::proofs::Lists::none_removed))]
+    fn next(&mut self, _client: ClientNumber) -> Option<Block> {
+        None
+    }
+}
+
 #[cfg(test)]
 mod tests {
     use super::*;
