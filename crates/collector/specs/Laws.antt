@@ -26,9 +26,8 @@ pub record FoundWhole (s : State) (before : List Call) (b : MessageBlock) (k : K
 pub record CollectorLaws : Type 0 where
   -- what holds of every collector still holds after some calls
   pub sound : (s : State) (cs : List Call) → Sound s → Sound (state_after s cs)
-  -- In whatever sound state the blocks begin, with any blocks of basic messages, unknown kinds or the other collection, and questions
-  -- collected, between its own,
-  -- a message whose blocks have come in a row is found whole at its last block, with its values.
+  -- In whatever sound state the blocks begin, and with any blocks of basic messages, unknown kinds or the other collection, and questions
+  -- collected, between its own, a message whose blocks have come in a row is found whole at its last block, with its values.
   pub whole_found : (s : State) (before : List Call) (b : MessageBlock) (k : Kind) (us : List ℕ)
       → Sound s → Completes before b k us → FoundWhole s before b k us
   -- So is what the writer makes of lawful values.

@@ -5,11 +5,11 @@
 
 ghost use Rattle.std.specs.Prelude.{◌≡◌, IfSome, IsFalse, Some, length};
 ghost use Rattle.std.specs.Option.{option_map};
-ghost use Rattle.collector.specs.Faults.{message_fault_of, message_fault_number, message_fault_text, report_faults};
-ghost use Rattle.collector.specs.Laws.{FaultLaws, LatestLaws, CollectorLaws};
+ghost use Rattle.collector.specs.Faults.{message_fault_number, message_fault_of, message_fault_text, report_faults};
+ghost use Rattle.collector.specs.Laws.{CollectorLaws, FaultLaws, LatestLaws};
 ghost use Rattle.collector.specs.Content.{IsPart};
 ghost use Rattle.collector.specs.State.{IsFull, Sound, last_of, place_of};
-ghost use Rattle.collector.specs.Step.{after, after_basic, after_part, collection_of, with_collection, with_last_whole, new_state, report_basic, report_of, report_part, with_no_question};
+ghost use Rattle.collector.specs.Step.{after, after_basic, after_part, collection_of, new_state, report_basic, report_of, report_part, with_collection, with_last_whole, with_no_question};
 
 mod assembly;
 mod question;

@@ -2,7 +2,7 @@
 //! It can be neither dropped unsettled nor used twice: a value of this type has to be answered or declined, for it is dropped only once it is settled.
 ghost use Rattle.std.specs.Prelude.{◌≡◌, ℕ, List, Ok, Err, IfErr, IsFalse, IsTrue, OnOk, Result, length};
 ghost use Rattle.refusal.specs.declared.Refusal.{Refusal as Cause};
-ghost use Rattle.collector.specs.Reply.{reply_values, RepliesLawful};
+ghost use Rattle.collector.specs.Reply.{RepliesLawful, reply_values};
 
 use refusal::Refusal;
 use std::marker::Model;

@@ -87,7 +87,9 @@ impl<'a> PacketReader<'a> {
             let Some(block) = inlet.next(self.client) else {
                 return;
             };
-            self.places[place] = block;
+            // by parts, as in `port::take_blocks`
+            let Block { sync, bytes } = block;
+            self.places[place] = Block { sync, bytes };
             self.held = place + 1;
         }
     }

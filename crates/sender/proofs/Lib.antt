@@ -1,3 +1,4 @@
 pub mod Slots
 pub mod SlotsLaid
 pub mod Behind
+pub mod Own

@@ -102,8 +102,7 @@ all_laid entries n w v frame to_come long s e =
     (cases_lt n 480) in
     let many : length frame.pairs ≡ 480 = ⊎_elim (λ (z : n ≡ 0). absurd (omega (arith, z, last))) (λ m. m) s.many in
     let entries_all : take n entries ≡ entries = take_all n entries (omega (arith, last, long)) in
-    let made : List Pair → List Block → Departure = λ ps bs. record { pairs = ps; rest = bs } in
-    (
+    let made : List Pair → List Block → Departure = λ ps bs. record { pairs = ps; rest = bs } in (
       ap₂ made
           (sym (take_all n frame.pairs (omega (arith, last, many))) ∙ s.laid ∙ ap (λ (l : List ℕ). pairs_for l w) entries_all)
           s.between,

@@ -1,6 +1,6 @@
 //! What can be done with a sender.
 
-ghost use Rattle.std.specs.Prelude.{◌≡◌, ◌<◌, [], ◌∷◌, Some, length};
+ghost use Rattle.std.specs.Prelude.{◌≡◌, ◌<◌, [], ◌∷◌, ◌++◌, Some};
 ghost use Rattle.block.specs.Fixed.{start_block};
 ghost use Rattle.calendar.specs.Entries.{entries_of};
 ghost use Rattle.message.specs.Kinds.{kind_of};
@@ -23,6 +23,7 @@ use under_way::outgoing::Outgoing;
 use waiting::LeftMessages;
 
 impl Sender {
+    #[tactic(auto, unfolding(sending::specs::Life::state_of))]
     /// A sender for a calendar, with the 32 trail bytes of its CV message; nothing is sent, and no message waits.
     pub fn new(calendar: Calendar, trail: [u8; 32]) -> Sender
         ensures made { result ≡ new_sender (entries_of calendar) trail }
@@ -111,16 +112,22 @@ impl Sender {
 
 // A block of the CV message over the trail bytes.
 fn verification_block(trail: &[u8; 32], block: u8) -> Block
-    requires few { block < 17 }
-    requires long { length trail.now ≡ 32 }
+    requires { block < 17 }
     ensures { result ≡ cv_block trail.now block }
+{
+    let mut blocks = [Block::idle(); 17];
+    // a lawful message, for which there are places
+    let _ = message::write(Kind::Cv, &verification_values(trail), &mut blocks);
+    blocks[block as usize]
+}
+
+// The value bytes of the CV message: the trail, and zeros where the remainder goes.
+fn verification_values(trail: &[u8; 32]) -> [u8; 34]
+    ensures { result ≡ trail.now ++ 0 ∷ 0 ∷ [] }
 {
     let mut values = [0; 34];
     values[..32].copy_from_slice(trail);
-    let mut blocks = [Block::idle(); 17];
-    // a lawful message, for which there are places
-    let _ = message::write(Kind::Cv, &values, &mut blocks);
-    blocks[block as usize]
+    values
 }
 
 // The CS message, with payload type 11.

@@ -1,17 +1,18 @@
 -- What a frame has in a client's slots is what its inlet gave, and what leaves its list.
-use Rattle.std.proofs.Common.{◌≡◌, ◌≢◌, ℕ, zero, suc, ◌+◌, ◌-◌, ◌*◌, Bool, true, false, cond, eqb, List, [], ◌∷◌, ◌++◌, map, length, take, drop, replicate, ◌⊎◌, inl, inr, sym, refl, ap, ◌∙◌, subst, arith}
+use Rattle.std.proofs.Common.{◌≡◌, ◌≢◌, ℕ, zero, suc, ◌+◌, ◌-◌, ◌*◌, Bool, true, false, cond, eqb, List, [], ◌∷◌, ◌++◌, map, length, take, drop, replicate, ◌⊎◌, inl, inr, sym, refl, ap, ◌∙◌, subst, arith, Option}
 use Rattle.std.proofs.lemmas.List.{drop-drop}
 use Rattle.std.proofs.lemmas.Bool.{eqb-true, eqb-false, eq-eqb, ne_eqb, both_ways, cases_eq, cond-true, cond-false}
 use Rattle.block.specs.declared.Block.{Block}
 use Rattle.block.specs.declared.Pair.{Pair}
 use Rattle.port.specs.Model.{Lists, first_of, rest_of, lists_after_next}
+use Rattle.port.specs.Pairs.{or_filler}
 use Rattle.block.specs.Fixed.{idle_block, error_block}
 use Rattle.block.specs.declared.Class.{Class}
 use Rattle.block.specs.declared.Class.TheVariants.{Data, Idle, Characters, OrderedSet, Start, End, Unlawful}
 use Rattle.block.specs.Classes.{class_of, is_lawful, lawful_or_error}
 use Rattle.calendar.specs.Share.{slot_count}
 use Rattle.sending.specs.Blocks.{is_idle_block, is_idle_class, without_idles}
-use Rattle.sending.specs.Laid.{block_for, pair_for, lists_after_slot, pairs_for, lists_after_frame, room_for, blocks_given, blocks_laid_for}
+use Rattle.sending.specs.Laid.{pair_for, lists_after_slot, pairs_for, lists_after_frame, room_for, blocks_given, blocks_laid_for}
 use Rattle.sending.specs.ClientLaws.{filled_up}
 use Rattle.sending.proofs.Codes.{idle_idle}
 
@@ -64,6 +65,10 @@ left_others c w k n = go (eqb c 0) refl
     go false p = rw (p, q) refl
 
 -- ---- slots one after the other
+-- what is laid for what a list has first
+abbrev block_for : Option Block → Block
+block_for o = lawful_or_error (or_filler idle_block o)
+
 -- so many blocks of a list, replaced where unlawful, and idles where it ends
 blocks_up_to : ℕ → List Block → List Block
 blocks_up_to zero l = []

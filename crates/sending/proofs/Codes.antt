@@ -1,5 +1,5 @@
 -- What is known of messages and their blocks.
-use Rattle.std.proofs.Common.{◌≡◌, ℕ, zero, suc, ◌+◌, ◌*◌, ◌<◌, ◌≤◌, Bool, true, false, cond, eqb, List, [], ◌∷◌, ◌++◌, length, get_or, Some, None, Option, refl, ap, ◌∙◌, inl, inr, arith, subst}
+use Rattle.std.proofs.Common.{◌≡◌, ℕ, zero, suc, ◌+◌, ◌<◌, ◌≤◌, Bool, true, false, cond, eqb, List, [], ◌∷◌, ◌++◌, length, get_or, Some, None, Option, refl, ap, inl, inr, arith, subst}
 use Rattle.std.specs.List.{list_all}
 use Rattle.std.proofs.lemmas.Bool.{eqb-true, and_parts, and_from, both_ways}
 use Rattle.block.specs.declared.Sync.{Sync}
@@ -16,8 +16,8 @@ use Rattle.message.specs.Blocks.{message_block, message_in_bytes}
 use Rattle.message.specs.Values.{filled_values, lawful, map_pairs}
 use Rattle.message.specs.Written.{message_block_at, basic_block, message_blocks}
 use Rattle.message.proofs.ReadBacks.{read_back}
-use Rattle.message.proofs.Pairs.{length_paired}
-use Rattle.message.proofs.Laws.{filled_length}
+use Rattle.message.proofs.Writes.{some_blocks}
+use Rattle.message.proofs.Laws.{laws}
 use Rattle.sending.specs.Blocks.{is_start_block, is_idle_block}
 use Rattle.sending.specs.Messages.{is_message, cv_block, cs_block}
 use Rattle.waiting.specs.Messages.{sort_of, MessageToSend, message_of_kind, message_to_send}
@@ -73,15 +73,6 @@ pub record IsSound (x : MessageToSend) : Type 0 where
   pub some : 0 < length x.blocks
   pub few : length x.blocks ≤ most_blocks x.sort
 
-one_block : (k : Kind) → 1 ≤ block_count_of k
-one_block Basic = omega arith
-one_block Aps = omega arith
-one_block Cv = omega arith
-one_block OneDm = omega arith
-one_block TwoDmm = omega arith
-one_block TwoDmr = omega arith
-one_block Cs = omega arith
-
 few_of : (k : Kind) (q r : Sort) → q ≡ r → block_count_of k ≤ most_blocks q → block_count_of k ≤ most_blocks r
 few_of k q r e h = subst (λ (x : Sort). block_count_of k ≤ most_blocks x) e h
 
@@ -94,19 +85,11 @@ few_blocks TwoDmm q e = few_of TwoDmm delays q (cc) (omega arith)
 few_blocks TwoDmr q e = few_of TwoDmr delays q (cc) (omega arith)
 few_blocks Cs q e = absurd (cc)
 
-lawful_long : (k : Kind) (vs : List ℕ) → lawful k vs ≡ true → length vs ≡ 2 * block_count_of k
-lawful_long k vs h = eqb-true (length vs) (2 * block_count_of k) (and_parts _ _ (and_parts _ _ h).1).0
-
-length-message : (k : Kind) (vs : List ℕ) → lawful k vs ≡ true → length (message_blocks k (filled_values vs)) ≡ block_count_of k
-length-message k vs h =
-    length_paired (message_block_at k) (block_count_of k) 0 (filled_values vs)
-    (filled_length vs (omega (arith, lawful_long k vs h, one_block k)) ∙ lawful_long k vs h)
-
 message_sound : (k : Kind) (vs : List ℕ) (q : Sort) → sort_of k ≡ Some q → lawful k vs ≡ true → IsSound (record { sort = q; blocks = message_blocks k (filled_values vs) })
 message_sound k vs q e h = record {
   all = all_paired k 0 (filled_values vs);
-  some = omega (arith, length-message k vs h, one_block k);
-  few = omega (arith, length-message k vs h, few_blocks k q e);
+  some = omega (arith, laws.block_count k vs h, some_blocks k);
+  few = omega (arith, laws.block_count k vs h, few_blocks k q e);
 }
 
 made_by : (k : Kind) (vs : List ℕ) (x : MessageToSend) → message_of_kind k vs ≡ Some x → IsSound x

@@ -13,12 +13,12 @@ use Rattle.schedule.specs.declared.Item.TheVariants.{Frame as FrameItem, Idle, B
 use Rattle.schedule.specs.Cycle.{item_at, is_frame}
 use Rattle.sending.specs.Blocks.{is_idle_block}
 use Rattle.sending.specs.Messages.{same_sort}
-use Rattle.waiting.specs.Messages.{MessageToSend, message_to_send, Waiting, nothing_waits, waits, next_block, with_one_gone}
+use Rattle.waiting.specs.Messages.{MessageToSend, message_to_send, WaitingMessage, nothing_waits, waits, next_block, with_one_gone}
 use Rattle.waiting.specs.declared.Sort.{Sort}
 use Rattle.waiting.specs.declared.Sort.TheVariants.{Delay as delays, Protection as protections}
-use Rattle.sending.specs.Sender.{Made, State, new_state, gap_result, own_result, item_result, send_result_by, frame_due, waiting_of, with_waiting, state_with, accepted_message}
+use Rattle.sending.specs.Sender.{Made, SenderState, new_sender_state, gap_result, own_result, item_result, send_result_by, frame_due, waiting_of, with_waiting, state_with, accepted_message}
 use Rattle.sending.specs.Life.{Life, LineItem, frame, gap, made, followed, send, leave, state_of, items_begun_by, items}
-use Rattle.sending.specs.MessageLaws.{opportunity_item, is_opportunity, first_start, BlockAt, in_a_row, found_at_item, found_on_line, Left, message_left, messages_left, whole_messages, MessagesOnTime, MessagesSent}
+use Rattle.sending.specs.MessageLaws.{opportunity_item, is_opportunity, first_start, BlockAt, in_a_row, found_at_item, found_on_line, LeftMessage, message_left, messages_left, whole_messages, MessagesOnTime, MessagesSent}
 use Rattle.sending.proofs.Codes.{IsSound, to_send_sound, idle_idle, message_no_idle}
 use Rattle.sending.proofs.Steps.{Begins, a_frame, a_gap, begins}
 use Rattle.sending.proofs.Counts.{Counted, due_item}
@@ -62,8 +62,8 @@ unfolding in_a_row
 row_to_come q n k [] h = tt
 row_to_come q n k (b ∷ bs) h = (h, row_to_come q n (k + 1) bs (let r = rising q k in omega arith))
 
-whole_push : (q : Sort) (xs : List Left) (x : Left) → whole_messages q (xs ++ (x ∷ [])) ≡ whole_messages q xs ++ in_a_row q (first_start q x.after) x.blocks
-whole_push q xs x = sym (flat_map_more (λ (y : Left). in_a_row q (first_start q y.after) y.blocks) [] xs x)
+whole_push : (q : Sort) (xs : List LeftMessage) (x : LeftMessage) → whole_messages q (xs ++ (x ∷ [])) ≡ whole_messages q xs ++ in_a_row q (first_start q x.after) x.blocks
+whole_push q xs x = sym (flat_map_more (λ (y : LeftMessage). in_a_row q (first_start q y.after) y.blocks) [] xs x)
 
 -- one block more of a row
 row_grown : (q : Sort) (k g n : ℕ) (bs : List Block) → g < length bs → opportunity_item q (k + g) ≡ n → in_a_row q k (take g bs) ++ (record { item = n; block = get_or bs g idle_block } ∷ []) ≡ in_a_row q k (take (g + 1) bs)
@@ -92,11 +92,11 @@ goes_there protections ClientSignal g e = e
 goes_there protections (Delay j) g e = e
 goes_there protections Spare g e = e
 
-block_by : (s : State) (w : Lists) (t : Bool) (b : Block) (d e : Waiting) → (cond t (gap_result s w b d e) (own_result s w idle_block)).block ≡ cond t b idle_block
+block_by : (s : SenderState) (w : Lists) (t : Bool) (b : Block) (d e : WaitingMessage) → (cond t (gap_result s w b d e) (own_result s w idle_block)).block ≡ cond t b idle_block
 block_by s w true b d e = refl
 block_by s w false b d e = refl
 
-opportunity_block : (q : Sort) (m : Made) (s : State) (w : Lists) (x : Item) → is_opportunity q x ≡ true → (item_result m s w x).block ≡ cond (goes q x (waiting_of s q)) (next_block (waiting_of s q)) idle_block
+opportunity_block : (q : Sort) (m : Made) (s : SenderState) (w : Lists) (x : Item) → is_opportunity q x ≡ true → (item_result m s w x).block ≡ cond (goes q x (waiting_of s q)) (next_block (waiting_of s q)) idle_block
 unfolding item_result
 opportunity_block delays m s w (Delay j) e = block_by s w _ (next_block s.left.delay) (with_one_gone s.left.delay) s.left.protection
 opportunity_block delays m s w FrameItem e = absurd (both_ways false refl e)
@@ -116,10 +116,10 @@ opportunity_block protections m s w (Delay j) e = absurd (both_ways false refl e
 opportunity_block protections m s w Spare e = absurd (both_ways false refl e)
 
 -- what is found of the item
-abbrev now : ℕ → Waiting → Bool → List BlockAt
+abbrev now : ℕ → WaitingMessage → Bool → List BlockAt
 now n d t = cond t (record { item = n; block = next_block d } ∷ []) []
 
-module _ (q : Sort) (m : Made) (s : State) (w : Lists) (n : ℕ) (c : Counted s n) (u : Sound s) where
+module _ (q : Sort) (m : Made) (s : SenderState) (w : Lists) (n : ℕ) (c : Counted s n) (u : Sound s) where
   found_gap : found_at_item q n (gap (item_result m s w (item_at s.position)).block) ≡ now n (waiting_of s q) (goes q (item_at n) (waiting_of s q))
   found_gap = go (is_opportunity q (item_at n)) (goes q (item_at n) (waiting_of s q)) refl refl
     where
@@ -145,18 +145,18 @@ module _ (q : Sort) (m : Made) (s : State) (w : Lists) (n : ℕ) (c : Counted s 
       go false false e f = rw (e, f) refl
 
 -- ---- what is kept
-pub record Delivering (q : Sort) (d : Waiting) (n : ℕ) (line : List BlockAt) (lefts : List Left) : Type 0 where
-  pub done : List Left
-  pub last : Left
+pub record Delivering (q : Sort) (d : WaitingMessage) (n : ℕ) (line : List BlockAt) (lefts : List LeftMessage) : Type 0 where
+  pub done : List LeftMessage
+  pub last : LeftMessage
   pub lefts_are : lefts ≡ done ++ cond (waits d) (last ∷ []) []
   pub line_is : line ≡ whole_messages q done ++ cond (waits d) (in_a_row q (first_start q last.after) (take d.gone last.blocks)) []
   pub same : waits d ≡ true → last.blocks ≡ d.blocks
   pub next_is : waits d ≡ true → next q d.gone n ≡ first_start q last.after + d.gone
 
-gone_low : (d : Waiting) → waits d ≡ true → d.gone < length d.blocks
+gone_low : (d : WaitingMessage) → waits d ≡ true → d.gone < length d.blocks
 gone_low d e = ltb-true d.gone (length d.blocks) e
 
-module _ (q : Sort) (d : Waiting) (n : ℕ) (line : List BlockAt) (lefts : List Left) (u : SoundOf q d) (h : Delivering q d n line lefts) where
+module _ (q : Sort) (d : WaitingMessage) (n : ℕ) (line : List BlockAt) (lefts : List LeftMessage) (u : SoundOf q d) (h : Delivering q d n line lefts) where
   still : (waits d ≡ true → due q (item_at n) d.gone ≡ false) → Delivering q d (n + 1) (line ++ []) lefts
   still f = rw (append-nil line) (record {
     done = h.done;
@@ -229,15 +229,15 @@ module _ (q : Sort) (d : Waiting) (n : ℕ) (line : List BlockAt) (lefts : List 
       go false e t f = rw t (still (λ x. t))
 
 -- ---- over a life
-frame_goes : (q : Sort) (d : Waiting) → goes q FrameItem d ≡ false
+frame_goes : (q : Sort) (d : WaitingMessage) → goes q FrameItem d ≡ false
 frame_goes delays d = refl
 frame_goes protections d = refl
 
-waiting_more : (s : State) (rest : List Block) (q : Sort) → waiting_of (record s { rest = rest }) q ≡ waiting_of s q
+waiting_more : (s : SenderState) (rest : List Block) (q : Sort) → waiting_of (record s { rest = rest }) q ≡ waiting_of s q
 waiting_more s rest delays = refl
 waiting_more s rest protections = refl
 
-module _ (q : Sort) (m : Made) (s : State) (w : Lists) (is : List LineItem) (lefts : List Left) (st : Standing m s is) (h : Delivering q (waiting_of s q) (length is) (found_on_line q 0 is) lefts) where
+module _ (q : Sort) (m : Made) (s : SenderState) (w : Lists) (is : List LineItem) (lefts : List LeftMessage) (st : Standing m s is) (h : Delivering q (waiting_of s q) (length is) (found_on_line q 0 is) lefts) where
   After : LineItem → Type 0
   After x = Delivering q (waiting_of (item_result m s w (item_at s.position)).state q) (length (is ++ (x ∷ []))) (found_on_line q 0 (is ++ (x ∷ []))) lefts
 
@@ -263,15 +263,15 @@ module _ (q : Sort) (m : Made) (s : State) (w : Lists) (is : List LineItem) (lef
 new_waits : (x : MessageToSend) → IsSound x → waits (record { blocks = x.blocks; gone = 0 }) ≡ true
 new_waits x h = lt-ltb 0 (length x.blocks) h.some
 
-module _ (q : Sort) (d : Waiting) (n : ℕ) (line : List BlockAt) (lefts : List Left) (h : Delivering q d n line lefts) where
+module _ (q : Sort) (d : WaitingMessage) (n : ℕ) (line : List BlockAt) (lefts : List LeftMessage) (h : Delivering q d n line lefts) where
   left_new : (x : MessageToSend) → IsSound x → waits d ≡ false → Delivering q (record { blocks = x.blocks; gone = 0 }) n line (lefts ++ (record { after = n; blocks = x.blocks } ∷ []))
   left_new x k off =
-      let y : Left = record { after = n; blocks = x.blocks } in
+      let y : LeftMessage = record { after = n; blocks = x.blocks } in
       record {
         done = h.done;
         last = record { after = n; blocks = x.blocks };
         lefts_are =
-            ap (λ (l : List Left). l ++ (record { after = n; blocks = x.blocks } ∷ [])) (h.lefts_are ∙ ap (λ l. h.done ++ l) (cond-false (waits d) _ _ off) ∙ append-nil h.done)
+            ap (λ (l : List LeftMessage). l ++ (record { after = n; blocks = x.blocks } ∷ [])) (h.lefts_are ∙ ap (λ l. h.done ++ l) (cond-false (waits d) _ _ off) ∙ append-nil h.done)
             ∙ ap (λ l. h.done ++ l) (sym (cond-true (waits (record { blocks = x.blocks; gone = 0 })) _ _ (new_waits x k)));
         line_is =
             h.line_is
@@ -283,7 +283,7 @@ module _ (q : Sort) (d : Waiting) (n : ℕ) (line : List BlockAt) (lefts : List 
   left_same : Delivering q d n line (lefts ++ [])
   left_same = rw (append-nil lefts) h
 
-not_waiting : (s : State) (o : Option MessageToSend) (x : MessageToSend) → accepted_message s o ≡ Some x → waits (waiting_of s x.sort) ≡ false
+not_waiting : (s : SenderState) (o : Option MessageToSend) (x : MessageToSend) → accepted_message s o ≡ Some x → waits (waiting_of s x.sort) ≡ false
 not_waiting s None x e = absurd (cc)
 not_waiting s (Some y) x e = go (waits (waiting_of s y.sort)) refl
   where
@@ -294,14 +294,14 @@ not_waiting s (Some y) x e = go (waits (waiting_of s y.sort)) refl
         let z : ◌≡◌ {A = MessageToSend} y x = cc in
         ap (λ (m : MessageToSend). waits (waiting_of s m.sort)) (sym z) ∙ p
 
-left_by_sort : (q r : Sort) (s : State) (n : ℕ) (line : List BlockAt) (lefts : List Left) → Delivering q (waiting_of s q) n line lefts → (x : MessageToSend) → IsSound x → waits (waiting_of s r) ≡ false
+left_by_sort : (q r : Sort) (s : SenderState) (n : ℕ) (line : List BlockAt) (lefts : List LeftMessage) → Delivering q (waiting_of s q) n line lefts → (x : MessageToSend) → IsSound x → waits (waiting_of s r) ≡ false
     → Delivering q (waiting_of (with_waiting s r (record { blocks = x.blocks; gone = 0 })) q) n line (lefts ++ cond (same_sort q r) (record { after = n; blocks = x.blocks } ∷ []) [])
 left_by_sort delays delays s n line lefts h x k off = left_new delays s.left.delay n line lefts h x k off
 left_by_sort delays protections s n line lefts h x k off = left_same delays s.left.delay n line lefts h
 left_by_sort protections delays s n line lefts h x k off = left_same protections s.left.protection n line lefts h
 left_by_sort protections protections s n line lefts h x k off = left_new protections s.left.protection n line lefts h x k off
 
-module _ (q : Sort) (s : State) (n : ℕ) (line : List BlockAt) (lefts : List Left) (h : Delivering q (waiting_of s q) n line lefts) where
+module _ (q : Sort) (s : SenderState) (n : ℕ) (line : List BlockAt) (lefts : List LeftMessage) (h : Delivering q (waiting_of s q) n line lefts) where
   leave_some : (x : MessageToSend) → IsSound x → waits (waiting_of s x.sort) ≡ false → Delivering q (waiting_of (state_with s (Some x)) q) n line (lefts ++ message_left q n (Some x))
   leave_some x k off = left_by_sort q x.sort s n line lefts h x k off
 
@@ -312,7 +312,7 @@ module _ (q : Sort) (s : State) (n : ℕ) (line : List BlockAt) (lefts : List Le
       go None e = left_same q (waiting_of s q) n line lefts h
       go (Some x) e = leave_some x (to_send_sound k vs x (accepted_is s (message_to_send k vs) x e)) (not_waiting s (message_to_send k vs) x e)
 
-fresh_waits : (q : Sort) → waiting_of new_state q ≡ nothing_waits
+fresh_waits : (q : Sort) → waiting_of new_sender_state q ≡ nothing_waits
 fresh_waits delays = refl
 fresh_waits protections = refl
 
@@ -332,7 +332,7 @@ delivering q m (followed l (leave k vs)) = rw (append-nil (items m l)) (leave_st
 pub messages_sent : MessagesSent
 messages_sent q m l = let h = delivering q m l in (h.done, (h.last, (h.lefts_are, h.line_is)))
 
-module _ (q : Sort) (d : Waiting) (n : ℕ) (line : List BlockAt) (lefts : List Left) (u : SoundOf q d) (h : Delivering q d n line lefts) where
+module _ (q : Sort) (d : WaitingMessage) (n : ℕ) (line : List BlockAt) (lefts : List LeftMessage) (u : SoundOf q d) (h : Delivering q d n line lefts) where
   abbrev OnTime : Type 0
   OnTime = (rest : List BlockAt) × ((line ++ rest ≡ whole_messages q lefts) × All (λ (x : BlockAt). n ≤ x.item) rest)
 

@@ -9,26 +9,26 @@ use Rattle.schedule.specs.declared.Item.{Item}
 use Rattle.schedule.specs.declared.Item.TheVariants.{Frame as FrameItem, Idle, Basic, Protection, Verification, ClientSignal, Delay, Spare}
 use Rattle.schedule.specs.Cycle.{is_frame}
 use Rattle.sending.specs.Messages.{is_message}
-use Rattle.waiting.specs.Messages.{MessageToSend, message_to_send, Waiting, nothing_waits, waits, next_block, with_one_gone}
+use Rattle.waiting.specs.Messages.{MessageToSend, message_to_send, WaitingMessage, nothing_waits, waits, next_block, with_one_gone}
 use Rattle.waiting.specs.declared.Sort.{Sort}
 use Rattle.waiting.specs.declared.Sort.TheVariants.{Delay as delays, Protection as protections}
-use Rattle.sending.specs.Sender.{Made, State, new_state, frame_result, gap_result, own_result, item_result, waiting_of, with_waiting, state_with, accepted_message}
+use Rattle.sending.specs.Sender.{Made, SenderState, new_sender_state, frame_result, gap_result, own_result, item_result, waiting_of, with_waiting, state_with, accepted_message}
 use Rattle.sending.specs.LineLaws.{IdleOrMessage, GapStands}
 use Rattle.sending.proofs.Codes.{all_messages, most_blocks, IsSound, to_send_sound, at_message}
 
 -- what waits is made of message blocks, and is not too long
-pub record SoundOf (q : Sort) (d : Waiting) : Type 0 where
+pub record SoundOf (q : Sort) (d : WaitingMessage) : Type 0 where
   pub all : all_messages d.blocks ≡ true
   pub few : length d.blocks ≤ most_blocks q
 
-abbrev pub Sound : State → Type 0
+abbrev pub Sound : SenderState → Type 0
 Sound s = (q : Sort) → SoundOf q (waiting_of s q)
 
 nothing_sound : (q : Sort) → SoundOf q nothing_waits
 nothing_sound delays = record { all = refl; few = omega arith }
 nothing_sound protections = record { all = refl; few = omega arith }
 
-pub sound_none : Sound new_state
+pub sound_none : Sound new_sender_state
 sound_none delays = nothing_sound delays
 sound_none protections = nothing_sound protections
 
@@ -52,13 +52,13 @@ due protections ClientSignal gone = false
 due protections (Delay j) gone = false
 due protections Spare gone = false
 
-abbrev pub goes : Sort → Item → Waiting → Bool
+abbrev pub goes : Sort → Item → WaitingMessage → Bool
 goes q x d = due q x d.gone && waits d
 
-abbrev pub moved : Sort → Item → Waiting → Waiting
+abbrev pub moved : Sort → Item → WaitingMessage → WaitingMessage
 moved q x d = cond (goes q x d) (with_one_gone d) d
 
-pub waiting_after : (m : Made) (s : State) (w : Lists) (x : Item) (q : Sort) → waiting_of (item_result m s w x).state q ≡ moved q x (waiting_of s q)
+pub waiting_after : (m : Made) (s : SenderState) (w : Lists) (x : Item) (q : Sort) → waiting_of (item_result m s w x).state q ≡ moved q x (waiting_of s q)
 unfolding item_result frame_result
 waiting_after m s w FrameItem delays = refl
 waiting_after m s w FrameItem protections = refl
@@ -93,23 +93,23 @@ waiting_after m s w (Delay j) protections = kept (eqb j s.left.delay.gone && wai
 waiting_after m s w Spare delays = refl
 waiting_after m s w Spare protections = refl
 
-sound_moved : (q : Sort) (d : Waiting) (t : Bool) → SoundOf q d → SoundOf q (cond t (with_one_gone d) d)
+sound_moved : (q : Sort) (d : WaitingMessage) (t : Bool) → SoundOf q d → SoundOf q (cond t (with_one_gone d) d)
 sound_moved q d true h = record { all = h.all; few = h.few }
 sound_moved q d false h = h
 
-pub sound_item : (m : Made) (s : State) (w : Lists) (x : Item) → Sound s → Sound (item_result m s w x).state
+pub sound_item : (m : Made) (s : SenderState) (w : Lists) (x : Item) → Sound s → Sound (item_result m s w x).state
 sound_item m s w x h q = subst (SoundOf q) (sym (waiting_after m s w x q)) (sound_moved q (waiting_of s q) (goes q x (waiting_of s q)) (h q))
 
-pub sound_more : (s : State) (rest : List Block) → Sound s → Sound (record s { rest = rest })
+pub sound_more : (s : SenderState) (rest : List Block) → Sound s → Sound (record s { rest = rest })
 sound_more s rest h delays = h delays
 sound_more s rest h protections = h protections
 
 -- ---- leaving
-pub waiting_with : (s : State) (q : Sort) (d : Waiting) → waiting_of (with_waiting s q d) q ≡ d
+pub waiting_with : (s : SenderState) (q : Sort) (d : WaitingMessage) → waiting_of (with_waiting s q d) q ≡ d
 waiting_with s delays d = refl
 waiting_with s protections d = refl
 
-pub accepted_is : (s : State) (o : Option MessageToSend) (x : MessageToSend) → accepted_message s o ≡ Some x → o ≡ Some x
+pub accepted_is : (s : SenderState) (o : Option MessageToSend) (x : MessageToSend) → accepted_message s o ≡ Some x → o ≡ Some x
 accepted_is s None x e = absurd (cc)
 accepted_is s (Some y) x e = go (waits (waiting_of s y.sort)) e
   where
@@ -117,7 +117,7 @@ accepted_is s (Some y) x e = go (waits (waiting_of s y.sort)) e
     go true e = absurd (cc)
     go false e = e
 
-sound_with : (s : State) (x : MessageToSend) → IsSound x → Sound s → Sound (state_with s (Some x))
+sound_with : (s : SenderState) (x : MessageToSend) → IsSound x → Sound s → Sound (state_with s (Some x))
 sound_with s x h k q = go x.sort refl q
   where
     go : (r : Sort) → x.sort ≡ r → (q : Sort) → SoundOf q (waiting_of (with_waiting s r (record { blocks = x.blocks; gone = 0 })) q)
@@ -126,7 +126,7 @@ sound_with s x h k q = go x.sort refl q
     go protections e delays = k delays
     go protections e protections = record { all = h.all; few = omega (arith, h.few, ap most_blocks e) }
 
-pub sound_leave : (s : State) (k : Option Kind) (vs : List ℕ) → Sound s → Sound (state_with s (accepted_message s (message_to_send k vs)))
+pub sound_leave : (s : SenderState) (k : Option Kind) (vs : List ℕ) → Sound s → Sound (state_with s (accepted_message s (message_to_send k vs)))
 sound_leave s k vs h = go (accepted_message s (message_to_send k vs)) refl
   where
     go : (o : Option MessageToSend) → accepted_message s (message_to_send k vs) ≡ o → Sound (state_with s o)
@@ -135,10 +135,10 @@ sound_leave s k vs h = go (accepted_message s (message_to_send k vs)) refl
 
 -- ---- what stands in the gap
 -- the next block of a message that waits
-pub next_message : (q : Sort) (d : Waiting) → SoundOf q d → waits d ≡ true → is_message (next_block d) ≡ true
+pub next_message : (q : Sort) (d : WaitingMessage) → SoundOf q d → waits d ≡ true → is_message (next_block d) ≡ true
 next_message q d h e = at_message d.blocks d.gone h.all (ltb-true d.gone (length d.blocks) e)
 
-pub gap_stands : (m : Made) (s : State) (w : Lists) (x : Item) → Sound s → is_frame x ≡ false → GapStands m (item_result m s w x).block x
+pub gap_stands : (m : Made) (s : SenderState) (w : Lists) (x : Item) → Sound s → is_frame x ≡ false → GapStands m (item_result m s w x).block x
 unfolding item_result
 gap_stands m s w FrameItem h t = absurd (both_ways true t refl)
 gap_stands m s w Idle h t = refl

@@ -13,7 +13,7 @@ use Rattle.schedule.proofs.Counts.{frames_more, frames_same, frame_even, frame_o
 use Rattle.schedule.proofs.Items.{view}
 use Rattle.waiting.specs.Messages.{message_to_send}
 use Rattle.sending.specs.Laid.{pairs_for, room_for}
-use Rattle.sending.specs.Sender.{Made, State, frame_result, item_result, send_result_by, frame_due, frame_begins_by, accepted_message}
+use Rattle.sending.specs.Sender.{Made, SenderState, frame_result, item_result, send_result_by, frame_due, frame_begins_by, accepted_message}
 use Rattle.sending.specs.Life.{Life, LineItem, frame, gap, made, followed, send, leave, state_of, items_begun_by, items}
 use Rattle.sending.specs.LineLaws.{Each, Stands, FrameStands, GapStands, ItemsInPlace, NoStart, GapsNeverStart, IdleOrMessage, blocks_of_items, frame_count, CyclesWhole}
 use Rattle.sending.specs.ClientLaws.{FillsSlots, SlotsFilled, Carries, FramesCarry, blocks_given_for, TakesWaiting, GivenLeaves, OthersKeep}
@@ -35,7 +35,7 @@ each_map P Q f i [] u = tt
 each_map P Q f i (x ∷ xs) (p, u) = (f i x p, each_map P Q f (i + 1) xs u)
 
 -- what a life keeps
-pub record Standing (m : Made) (s : State) (is : List LineItem) : Type 0 where
+pub record Standing (m : Made) (s : SenderState) (is : List LineItem) : Type 0 where
   pub counted : Counted s (length is)
   pub sound : Sound s
   pub stands : Each (Stands m) 0 is
@@ -56,7 +56,7 @@ frame_item ClientSignal e = absurd (cc)
 frame_item (Delay j) e = absurd (cc)
 frame_item Spare e = absurd (cc)
 
-module _ (m : Made) (s : State) (w : Lists) (is : List LineItem) (h : Standing m s is) where
+module _ (m : Made) (s : SenderState) (w : Lists) (is : List LineItem) (h : Standing m s is) where
   here : (x : LineItem) → Stands m (length is) x → Stands m (0 + length is) x
   here x p = let z : length is ≡ 0 + length is = omega arith in subst (λ k. Stands m k x) z p
 
@@ -145,7 +145,7 @@ pub gaps_never_start : GapsNeverStart
 gaps_never_start m l = each_map (Stands m) (λ i x. NoStart x) (stands_no_start m) 0 (items m l) (standing m l).stands
 
 -- ---- at a send
-module _ (m : Made) (s : State) (w : Lists) (k : ℕ) where
+module _ (m : Made) (s : SenderState) (w : Lists) (k : ℕ) where
   abbrev Takes : ℕ → List Block → Type 0
   Takes n rest = (blocks_given_for (items_begun_by m s w rest) k ≡ take n (w k)) × ((send_result_by m s w rest).waiting k ≡ drop n (w k))
 

@@ -6,29 +6,29 @@ use Rattle.block.specs.Fixed.{idle_block}
 use Rattle.schedule.specs.declared.Item.{Item}
 use Rattle.schedule.specs.declared.Item.TheVariants.{Frame as FrameItem, Idle, Basic, Protection, Verification, ClientSignal, Delay, Spare}
 use Rattle.schedule.specs.Cycle.{is_frame, next_position}
-use Rattle.waiting.specs.Messages.{MessageToSend, Waiting, waits, next_block, with_one_gone}
+use Rattle.waiting.specs.Messages.{MessageToSend, WaitingMessage, waits, next_block, with_one_gone}
 use Rattle.waiting.specs.declared.Sort.{Sort}
 use Rattle.waiting.specs.declared.Sort.TheVariants.{Delay as delays, Protection as protections}
-use Rattle.sending.specs.Sender.{Made, State, SendResult, frame_result, gap_result, own_result, item_result, with_waiting, state_with}
+use Rattle.sending.specs.Sender.{Made, SenderState, SendResult, frame_result, gap_result, own_result, item_result, with_waiting, state_with}
 
-pub record Gapped (s : State) (w : Lists) (r : SendResult) : Type 0 where
+pub record Gapped (s : SenderState) (w : Lists) (r : SendResult) : Type 0 where
   pub rest : r.state.rest ≡ []
   pub position : r.state.position ≡ next_position s.position
   pub number : r.state.number ≡ s.number
   pub waiting : r.waiting ≡ w
 
-pub data Begins (m : Made) (s : State) (w : Lists) (x : Item) : Type 0 where
+pub data Begins (m : Made) (s : SenderState) (w : Lists) (x : Item) : Type 0 where
   a_frame : is_frame x ≡ true → item_result m s w x ≡ frame_result m s w → Begins m s w x
   a_gap : is_frame x ≡ false → Gapped s w (item_result m s w x) → Begins m s w x
 
-gapped : (s : State) (w : Lists) (b : Block) (d e : Waiting) → Gapped s w (gap_result s w b d e)
+gapped : (s : SenderState) (w : Lists) (b : Block) (d e : WaitingMessage) → Gapped s w (gap_result s w b d e)
 gapped s w b d e = record { rest = refl; position = refl; number = refl; waiting = refl }
 
-either : (s : State) (w : Lists) (t : Bool) (a b : SendResult) → Gapped s w a → Gapped s w b → Gapped s w (cond t a b)
+either : (s : SenderState) (w : Lists) (t : Bool) (a b : SendResult) → Gapped s w a → Gapped s w b → Gapped s w (cond t a b)
 either s w true a b h k = h
 either s w false a b h k = k
 
-pub begins : (m : Made) (s : State) (w : Lists) (x : Item) → Begins m s w x
+pub begins : (m : Made) (s : SenderState) (w : Lists) (x : Item) → Begins m s w x
 unfolding item_result
 begins m s w FrameItem = a_frame refl refl
 begins m s w Idle = a_gap refl (gapped s w _ _ _)
@@ -40,15 +40,15 @@ begins m s w (Delay j) = a_gap refl (either s w (eqb j s.left.delay.gone && wait
 begins m s w Spare = a_gap refl (gapped s w _ _ _)
 
 -- a leaving keeps what is under way, position and number
-pub record Kept (s t : State) : Type 0 where
+pub record Kept (s t : SenderState) : Type 0 where
   pub rest : t.rest ≡ s.rest
   pub position : t.position ≡ s.position
   pub number : t.number ≡ s.number
 
-waiting_kept : (s : State) (q : Sort) (d : Waiting) → Kept s (with_waiting s q d)
+waiting_kept : (s : SenderState) (q : Sort) (d : WaitingMessage) → Kept s (with_waiting s q d)
 waiting_kept s delays d = record { rest = refl; position = refl; number = refl }
 waiting_kept s protections d = record { rest = refl; position = refl; number = refl }
 
-pub message_kept : (s : State) (o : Option MessageToSend) → Kept s (state_with s o)
+pub message_kept : (s : SenderState) (o : Option MessageToSend) → Kept s (state_with s o)
 message_kept s None = record { rest = refl; position = refl; number = refl }
 message_kept s (Some x) = waiting_kept s x.sort _

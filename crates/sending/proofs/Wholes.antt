@@ -1,5 +1,5 @@
 -- Whole blocks make whole pairs.
-use Rattle.std.proofs.Common.{ℕ, zero, suc, ◌<◌, Bool, true, false, cond, eqb, List, [], ◌∷◌, refl, lit<, arith}
+use Rattle.std.proofs.Common.{Option, ℕ, zero, suc, ◌<◌, Bool, true, false, cond, eqb, List, [], ◌∷◌, refl, lit<, arith}
 use Rattle.std.specs.List.{All, AllByRecursion}
 use Rattle.std.proofs.lemmas.List.Elements.{All-from_recursion, All-head, All-tail}
 use Rattle.block.specs.declared.Block.{Block}
@@ -7,7 +7,8 @@ use Rattle.block.specs.Whole.{Bytes, Whole, WholePair}
 use Rattle.block.specs.Classes.{class_of, is_lawful, lawful_or_error}
 use Rattle.block.specs.Fixed.{idle_block, error_block}
 use Rattle.port.specs.Model.{Lists, first_of, rest_of, lists_after_next}
-use Rattle.sending.specs.Laid.{block_for, pair_for, lists_after_slot, pairs_for}
+use Rattle.port.specs.Pairs.{or_filler}
+use Rattle.sending.specs.Laid.{pair_for, lists_after_slot, pairs_for}
 use Rattle.sending.specs.ClientLaws.{LaidWhole}
 
 AllWhole : Lists → Type 0
@@ -30,6 +31,9 @@ whole_lawful b h = go (is_lawful (class_of b))
     go : (t : Bool) → Whole (cond t b error_block)
     go true = h
     go false = whole_error
+
+abbrev block_for : Option Block → Block
+block_for o = lawful_or_error (or_filler idle_block o)
 
 whole_first : (l : List Block) → All Whole l → Whole (block_for (first_of l))
 whole_first [] h = whole_idle

@@ -30,7 +30,8 @@ SlotsFilled = (m : Made) (l : Life) → Each (λ i x. FillsSlots m x) 0 (items m
 -- idles aside, what a frame has in a client's slots is what its inlet gave for it, unlawful blocks replaced
 abbrev pub Carries : Made → LineItem → Type 0
 Carries m (frame f) =
-    (client : ℕ) → client ≢ 0 → without_idles (blocks_laid_for m.calendar f.pairs client) ≡ map lawful_or_error (without_idles (f.given client))
+    (client : ℕ) → client ≢ 0
+    → without_idles (blocks_laid_for m.calendar f.pairs client) ≡ map lawful_or_error (without_idles (f.given client))
 Carries m (gap b) = Unit {0}
 
 abbrev pub FramesCarry : Type 0
@@ -59,13 +60,15 @@ StretchesCarry =
     → let stretch = take n (drop i (items m l)) in
     without_idles (blocks_laid_in m stretch client) ≡ map lawful_or_error (without_idles (blocks_given_for stretch client))
 
--- what leaves a client's list at a send that begins a frame is all that waits, up to two blocks for each of its slots; at any other nothing leaves
+-- what leaves a client's list at a send that begins a frame is all that waits, up to two blocks for each of its slots; at any other send
+-- nothing leaves
 abbrev pub TakesWaiting : Type 0
 TakesWaiting =
     (m : Made) (l : Life) (waiting : Lists) (client : ℕ)
     → let s = state_of m l in
     let n = (if frame_begins s then room_for client m.calendar else 0) in
-    (blocks_given_for (items_begun m s waiting) client ≡ take n (waiting client)) × ((send_result m s waiting).waiting client ≡ drop n (waiting client))
+    (blocks_given_for (items_begun m s waiting) client ≡ take n (waiting client))
+    × ((send_result m s waiting).waiting client ≡ drop n (waiting client))
 
 -- so what leaves was given for the frame that begins
 abbrev pub GivenLeaves : Type 0

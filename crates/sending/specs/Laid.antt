@@ -1,26 +1,26 @@
 -- What a frame takes from the clients' lists, and lays into its slots: two blocks to a slot, slots 1 to 480 in order.
-use Rattle.std.specs.Prelude.{ℕ, ◌*◌, if◌then◌else◌, List, [], ◌∷◌, Some, None, Option, ◌==◌, take}
+use Rattle.std.specs.Prelude.{ℕ, ◌*◌, if◌then◌else◌, List, [], ◌∷◌, ◌==◌, take}
 use Rattle.block.specs.declared.Block.{Block}
 use Rattle.block.specs.declared.Pair.{Pair}
 use Rattle.block.specs.Classes.{lawful_or_error}
 use Rattle.block.specs.Fixed.{idle_block, error_block}
-use Rattle.port.specs.Model.{Lists, first_of, rest_of, lists_after_next}
+use Rattle.port.specs.Model.{Lists}
+use Rattle.port.specs.Pairs.{first_pair, lists_after_pair}
 use Rattle.calendar.specs.Share.{slot_count}
 
--- for an inlet's answer: an idle where no block waits, and the error block for an unlawful one
-abbrev pub block_for : Option Block → Block
-block_for None = idle_block
-block_for (Some b) = lawful_or_error b
+-- with an unlawful block replaced
+abbrev pub lawful_pair : Pair → Pair
+lawful_pair p = record { first = lawful_or_error p.first; second = lawful_or_error p.second }
 
--- a slot's pair, by its entry in the calendar: two error blocks where it is empty, else its client's first two blocks
+-- a slot's pair, by its entry in the calendar: two error blocks where it is empty, else its client's first two blocks, with an idle for each that
+-- is missing
 abbrev pub pair_for : ℕ → Lists → Pair
 pair_for entry waiting =
-    if entry == 0 then record { first = error_block; second = error_block }
-    else record { first = block_for (first_of (waiting entry)); second = block_for (first_of (rest_of (waiting entry))) }
+    if entry == 0 then record { first = error_block; second = error_block } else lawful_pair (first_pair idle_block (waiting entry))
 
 -- and the lists that it leaves
 abbrev pub lists_after_slot : ℕ → Lists → Lists
-lists_after_slot entry waiting = if entry == 0 then waiting else lists_after_next entry (lists_after_next entry waiting)
+lists_after_slot entry waiting = if entry == 0 then waiting else lists_after_pair entry waiting
 
 -- over the slots, in order
 unfoldable pub pairs_for : List ℕ → Lists → List Pair

@@ -4,7 +4,7 @@ use Rattle.block.specs.declared.Block.{Block}
 use Rattle.port.specs.Model.{Lists}
 use Rattle.message.specs.declared.Kind.{Kind}
 use Rattle.schedule.specs.Cycle.{item_at, is_frame}
-use Rattle.sending.specs.Sender.{Made, State, Sender, new_sender, LineFrame, new_state, frame_due, item_result, send_result, state_after_leave}
+use Rattle.sending.specs.Sender.{Made, SenderState, Sender, new_sender, LineFrame, new_sender_state, frame_due, item_result, send_result, state_after_leave}
 
 pub data Call : Type 0 where
   -- a send, with what waits at the inlet then
@@ -16,14 +16,14 @@ pub data Life : Type 0 where
   made : Life
   followed : Life → Call → Life
 
-abbrev pub state_after : Made → State → Call → State
-state_after m s (send waiting) = (send_result m s waiting).state
-state_after m s (leave kind values) = state_after_leave s kind values
+abbrev pub state_after_call : Made → SenderState → Call → SenderState
+state_after_call m s (send waiting) = (send_result m s waiting).state
+state_after_call m s (leave kind values) = state_after_leave s kind values
 
 -- the state to which a life leads
-unfoldable pub state_of : Made → Life → State
-state_of m made = new_state
-state_of m (followed l c) = state_after m (state_of m l) c
+unfoldable pub state_of : Made → Life → SenderState
+state_of m made = new_sender_state
+state_of m (followed l c) = state_after_call m (state_of m l) c
 
 -- what goes on the line: a frame, or a gap block
 pub data LineItem : Type 0 where
@@ -31,19 +31,19 @@ pub data LineItem : Type 0 where
   gap : Block → LineItem
 
 -- the item that a send begins, if any
-abbrev pub items_begun_by : Made → State → Lists → List Block → List LineItem
+abbrev pub items_begun_by : Made → SenderState → Lists → List Block → List LineItem
 items_begun_by m s waiting [] =
     (if is_frame (item_at s.position) then frame (frame_due m s waiting) else gap (item_result m s waiting (item_at s.position)).block) ∷ []
 items_begun_by m s waiting (b ∷ bs) = []
 
-abbrev pub items_begun : Made → State → Lists → List LineItem
+abbrev pub items_begun : Made → SenderState → Lists → List LineItem
 items_begun m s waiting = items_begun_by m s waiting s.rest
 
-abbrev pub call_blocks : Made → State → Call → List Block
+abbrev pub call_blocks : Made → SenderState → Call → List Block
 call_blocks m s (send waiting) = (send_result m s waiting).block ∷ []
 call_blocks m s (leave kind values) = []
 
-abbrev pub call_items : Made → State → Call → List LineItem
+abbrev pub call_items : Made → SenderState → Call → List LineItem
 call_items m s (send waiting) = items_begun m s waiting
 call_items m s (leave kind values) = []
 
@@ -73,5 +73,5 @@ Lengthens before c behind call_sent =
 -- so each send, with what waits then, and each leaving; and to a sender that is made leads the life with no call
 abbrev pub CallsLengthen : Type 0
 CallsLengthen =
-    ((s : Sender) (c : Call) → Lengthens s c (record s { state = state_after s.made s.state c }) (call_blocks s.made s.state c))
+    ((s : Sender) (c : Call) → Lengthens s c (record s { state = state_after_call s.made s.state c }) (call_blocks s.made s.state c))
     × ((calendar trail : List ℕ) → state_of (new_sender calendar trail).made made ≡ (new_sender calendar trail).state)

@@ -1,7 +1,8 @@
 -- What becomes of the messages that are left, in every life of a sender.
-use Rattle.std.specs.Prelude.{◌≡◌, ℕ, ◌+◌, ◌*◌, ◌/◌, ◌%◌, ◌<◌, ◌≤◌, Bool, true, false, IsTrue, if◌then◌else◌, not, ◌&&◌, List, [], ◌∷◌, ◌++◌, Some, None, Option, Err, length, take, ◌==◌}
-use Rattle.std.specs.List.{All, flat_map}
+use Rattle.std.specs.Prelude.{◌≡◌, ℕ, ◌+◌, ◌*◌, ◌/◌, ◌%◌, ◌<◌, ◌≤◌, ◌⊎◌, Bool, true, false, IsTrue, if◌then◌else◌, not, ◌&&◌, List, [], ◌∷◌, ◌++◌, Some, None, Option, Err, length, take, ◌==◌}
+use Rattle.std.specs.List.{All, Contains, flat_map}
 use Rattle.block.specs.declared.Block.{Block}
+use Rattle.block.specs.Fixed.{idle_block}
 use Rattle.refusal.specs.declared.Refusal.{Refusal}
 use Rattle.message.specs.declared.Kind.{Kind}
 use Rattle.schedule.specs.declared.Item.{Item}
@@ -12,12 +13,16 @@ use Rattle.sending.specs.Messages.{same_sort}
 use Rattle.waiting.specs.Messages.{MessageToSend, message_to_send, waits}
 use Rattle.waiting.specs.declared.Sort.{Sort}
 use Rattle.waiting.specs.declared.Sort.TheVariants.{Delay as delays, Protection as protections}
-use Rattle.sending.specs.Sender.{Made, State, waiting_of, accepted_message, leave_answer, state_after_leave}
+use Rattle.sending.specs.Sender.{Made, SenderState, waiting_of, accepted_message, leave_answer, state_after_leave}
 use Rattle.sending.specs.Life.{Call, Life, LineItem, frame, gap, made, followed, send, leave, state_of, items, life_and}
+use Rattle.sending.specs.LineLaws.{Each}
 
 -- a refused leaving leaves the sender as it was
 abbrev pub RefusedKeeps : Type 0
-RefusedKeeps = (s : State) (kind : Option Kind) (values : List ℕ) (cause : Refusal) → leave_answer s kind values ≡ Err cause → state_after_leave s kind values ≡ s
+RefusedKeeps =
+    (s : SenderState) (kind : Option Kind) (values : List ℕ) (cause : Refusal)
+    → leave_answer s kind values ≡ Err cause
+    → state_after_leave s kind values ≡ s
 
 -- the opportunities of a sort, counted from 0 without end, and the items at which they stand:
 -- a round has 13 for delay messages, low priority opportunities 19 to 31; every other cycle has one for APS
@@ -48,7 +53,7 @@ abbrev pub may_start : Sort → ℕ → Bool
 may_start delays k = k % 13 == 0
 may_start protections k = true
 
--- the first opportunity at which a message may start that is left once n items have begun
+-- the first opportunity to come at which a message may start, once n items have begun; that it is, is the law `FirstStarts`
 abbrev pub first_start : Sort → ℕ → ℕ
 first_start delays n = 13 * ((n + 5879) / round_items)
 first_start protections n = (n + 94) / 130
@@ -81,28 +86,29 @@ found_on_line sort i [] = []
 found_on_line sort i (x ∷ xs) = found_at_item sort i x ++ found_on_line sort (i + 1) xs
 
 -- a message that was accepted: how many items had begun when it was left, and its blocks
-pub record Left : Type 0 where
+pub record LeftMessage : Type 0 where
   pub after : ℕ
   pub blocks : List Block
 
-abbrev pub message_left : Sort → ℕ → Option MessageToSend → List Left
+abbrev pub message_left : Sort → ℕ → Option MessageToSend → List LeftMessage
 message_left sort n None = []
 message_left sort n (Some x) = if same_sort sort x.sort then record { after = n; blocks = x.blocks } ∷ [] else []
 
-abbrev pub left_by_call : Sort → State → ℕ → Call → List Left
+abbrev pub left_by_call : Sort → SenderState → ℕ → Call → List LeftMessage
 left_by_call sort s n (send waiting) = []
 left_by_call sort s n (leave kind values) = message_left sort n (accepted_message s (message_to_send kind values))
 
 -- the messages of a sort that were accepted, in the order of leaving
-unfoldable pub messages_left : Sort → Made → Life → List Left
+unfoldable pub messages_left : Sort → Made → Life → List LeftMessage
 messages_left sort m made = []
 messages_left sort m (followed l c) = messages_left sort m l ++ left_by_call sort (state_of m l) (length (items m l)) c
 
 -- messages sent whole: each from the first opportunity on at which it may start
-abbrev pub whole_messages : Sort → List Left → List BlockAt
-whole_messages sort = flat_map (λ (x : Left). in_a_row sort (first_start sort x.after) x.blocks)
+abbrev pub whole_messages : Sort → List LeftMessage → List BlockAt
+whole_messages sort = flat_map (λ (x : LeftMessage). in_a_row sort (first_start sort x.after) x.blocks)
 
--- what the line has at the opportunities of a sort, and then some blocks at items still to come, are the messages left, whole, once each, in order
+-- what the line has at the opportunities of a sort, and then some blocks at items still to come, are the messages left, in order, each whole and
+-- once
 abbrev pub MessagesOnTime : Type 0
 MessagesOnTime =
     (sort : Sort) (m : Made) (l : Life)
@@ -115,11 +121,21 @@ abbrev pub MessagesSent : Type 0
 MessagesSent =
     (sort : Sort) (m : Made) (l : Life)
     → let d = waiting_of (state_of m l) sort in
-    ((done : List Left) × ((last : Left) × (
+    ((done : List LeftMessage) × ((last : LeftMessage) × (
     (messages_left sort m l ≡ done ++ (if waits d then last ∷ [] else []))
-    × (found_on_line sort 0 (items m l) ≡ whole_messages sort done ++ (if waits d then in_a_row sort (first_start sort last.after) (take d.gone last.blocks) else [])))))
+    × (found_on_line sort 0 (items m l)
+    ≡ whole_messages sort done ++ (if waits d then in_a_row sort (first_start sort last.after) (take d.gone last.blocks) else [])))))
 
--- how many items it takes at most until a message that waits is whole on the line
+-- at an opportunity of a sort stands an idle, or the block of a message left that goes there
+abbrev pub IdleOrLeft : Sort → List BlockAt → ℕ → LineItem → Type 0
+IdleOrLeft sort whole i (frame f) = Unit {0}
+IdleOrLeft sort whole i (gap b) = IsTrue (is_opportunity sort (item_at i)) → (b ≡ idle_block) ⊎ Contains whole (record { item = i; block = b })
+
+abbrev pub OnlyLeftMessages : Type 0
+OnlyLeftMessages =
+    (sort : Sort) (m : Made) (l : Life) → Each (IdleOrLeft sort (whole_messages sort (messages_left sort m l))) 0 (items m l)
+
+-- how many items it takes at most until a message that waits is whole on the line: a round, or two cycles, and the opportunities of its other blocks
 abbrev pub longest_wait : Sort → ℕ
 longest_wait delays = 128 * 65 + 12 * 130
 longest_wait protections = 2 * 130

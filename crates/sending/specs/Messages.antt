@@ -1,14 +1,12 @@
 -- The messages that a sender writes of itself, and the sorts of those that may be left with it.
-use Rattle.std.specs.Prelude.{ℕ, ◌+◌, Bool, true, false, if◌then◌else◌, List, [], ◌∷◌, ◌++◌, Some, None, Option, length, nat_lt, slice_index_or}
-use Rattle.std.specs.Option.{option_map}
+use Rattle.std.specs.Prelude.{ℕ, Bool, true, false, List, [], ◌∷◌, ◌++◌, Some, None, slice_index_or}
 use Rattle.block.specs.declared.Block.{Block}
 use Rattle.block.specs.Fixed.{idle_block}
-use Rattle.message.specs.declared.Kind.{Kind}
-use Rattle.message.specs.declared.Kind.TheVariants.{Basic, Aps, Cv, OneDm, TwoDmm, TwoDmr, Cs}
+use Rattle.message.specs.declared.Kind.TheVariants.{Cv, Cs}
 use Rattle.message.specs.Blocks.{read_of}
 use Rattle.waiting.specs.declared.Sort.{Sort}
 use Rattle.waiting.specs.declared.Sort.TheVariants.{Delay as delays, Protection as protections}
-use Rattle.message.specs.Values.{filled_values, lawful}
+use Rattle.message.specs.Values.{filled_values}
 use Rattle.message.specs.Written.{message_blocks}
 
 -- block i, 0 to 16, of the CV message over a trail of 32 bytes

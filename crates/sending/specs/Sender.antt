@@ -16,7 +16,7 @@ use Rattle.sending.specs.Frames.{frame_rest}
 use Rattle.sending.specs.Laid.{pairs_for, lists_after_frame, blocks_given}
 use Rattle.sending.specs.Messages.{cv_block, cs_block}
 use Rattle.waiting.specs.Left.{Left, nothing_left, waiting_in, left_with, answer_by, accepted_by, left_with_message, left_answer, left_after_leave}
-use Rattle.waiting.specs.Messages.{MessageToSend, message_to_send, Waiting, nothing_waits, waits, next_block, with_one_gone}
+use Rattle.waiting.specs.Messages.{MessageToSend, message_to_send, WaitingMessage, nothing_waits, waits, next_block, with_one_gone}
 use Rattle.waiting.specs.declared.Sort.{Sort}
 use Rattle.waiting.specs.declared.Sort.TheVariants.{Delay as delays, Protection as protections}
 
@@ -25,7 +25,7 @@ pub record Made : Type 0 where
   pub calendar : List ℕ
   pub trail : List ℕ
 
-pub record State : Type 0 where
+pub record SenderState : Type 0 where
   -- the blocks still to send of the frame under way
   pub rest : List Block
   -- the position of the next item in the schedule
@@ -36,8 +36,8 @@ pub record State : Type 0 where
   pub left : Left
 
 -- a sender that has sent nothing
-abbrev pub new_state : State
-new_state = record { rest = []; position = 0; number = 0; left = nothing_left }
+abbrev pub new_sender_state : SenderState
+new_sender_state = record { rest = []; position = 0; number = 0; left = nothing_left }
 
 -- a frame on the line: its number, the calendar entry that it announces, the pairs of slots 1 to 480, and what each client's inlet gave for it
 pub record LineFrame : Type 0 where
@@ -47,7 +47,7 @@ pub record LineFrame : Type 0 where
   pub given : Lists
 
 -- the frame that is due: number m announces the entry of slot m + 1, before which m others stand
-unfoldable pub frame_due : Made → State → Lists → LineFrame
+unfoldable pub frame_due : Made → SenderState → Lists → LineFrame
 frame_due m s waiting = record {
   number = s.number;
   entry = slice_index m.calendar s.number;
@@ -58,15 +58,15 @@ frame_due m s waiting = record {
 -- the block of a send, the sender after it, and the clients' lists after it
 pub record SendResult : Type 0 where
   pub block : Block
-  pub state : State
+  pub state : SenderState
   pub waiting : Lists
 
 -- a block more of the frame under way
-abbrev pub more_result : State → Lists → Block → List Block → SendResult
+abbrev pub more_result : SenderState → Lists → Block → List Block → SendResult
 more_result s waiting block rest = record { block = block; state = record s { rest = rest }; waiting = waiting }
 
 -- the start block of a frame, which takes from the lists
-unfoldable pub frame_result : Made → State → Lists → SendResult
+unfoldable pub frame_result : Made → SenderState → Lists → SendResult
 frame_result m s waiting = record {
   block = start_block;
   state = record s {
@@ -78,7 +78,7 @@ frame_result m s waiting = record {
 }
 
 -- a gap block, with the messages that wait after it
-abbrev pub gap_result : State → Lists → Block → Waiting → Waiting → SendResult
+abbrev pub gap_result : SenderState → Lists → Block → WaitingMessage → WaitingMessage → SendResult
 gap_result s waiting block delay protection = record {
   block = block;
   state = record { rest = []; position = next_position s.position; number = s.number; left = record { delay = delay; protection = protection } };
@@ -86,11 +86,11 @@ gap_result s waiting block delay protection = record {
 }
 
 -- a gap block in which no message goes that was left
-abbrev pub own_result : State → Lists → Block → SendResult
+abbrev pub own_result : SenderState → Lists → Block → SendResult
 own_result s waiting block = gap_result s waiting block s.left.delay s.left.protection
 
 -- what is sent where an item begins; block j of a delay message goes at its own opportunity alone
-unfoldable pub item_result : Made → State → Lists → Item → SendResult
+unfoldable pub item_result : Made → SenderState → Lists → Item → SendResult
 item_result m s waiting FrameItem = frame_result m s waiting
 item_result m s waiting Idle = own_result s waiting idle_block
 item_result m s waiting (Basic mark) = own_result s waiting (basic_block mark)
@@ -105,52 +105,52 @@ item_result m s waiting (Delay block) =
 item_result m s waiting Spare = own_result s waiting idle_block
 
 -- a send, by what is left of the frame under way
-abbrev pub send_result_by : Made → State → Lists → List Block → SendResult
+abbrev pub send_result_by : Made → SenderState → Lists → List Block → SendResult
 send_result_by m s waiting [] = item_result m s waiting (item_at s.position)
 send_result_by m s waiting (b ∷ bs) = more_result s waiting b bs
 
-abbrev pub send_result : Made → State → Lists → SendResult
+abbrev pub send_result : Made → SenderState → Lists → SendResult
 send_result m s waiting = send_result_by m s waiting s.rest
 
 -- whether a send begins a frame
-abbrev pub frame_begins_by : State → List Block → Bool
+abbrev pub frame_begins_by : SenderState → List Block → Bool
 frame_begins_by s [] = is_frame (item_at s.position)
 frame_begins_by s (b ∷ bs) = false
 
-abbrev pub frame_begins : State → Bool
+abbrev pub frame_begins : SenderState → Bool
 frame_begins s = frame_begins_by s s.rest
 
 -- ---- leaving a message, as of what waits
-abbrev pub waiting_of : State → Sort → Waiting
+abbrev pub waiting_of : SenderState → Sort → WaitingMessage
 waiting_of s sort = waiting_in s.left sort
 
-abbrev pub with_waiting : State → Sort → Waiting → State
+abbrev pub with_waiting : SenderState → Sort → WaitingMessage → SenderState
 with_waiting s sort d = record s { left = left_with s.left sort d }
 
-abbrev pub leave_answer_to : State → Option MessageToSend → Result (Unit {0}) Refusal
+abbrev pub leave_answer_to : SenderState → Option MessageToSend → Result (Unit {0}) Refusal
 leave_answer_to s message = answer_by s.left message
 
-abbrev pub accepted_message : State → Option MessageToSend → Option MessageToSend
+abbrev pub accepted_message : SenderState → Option MessageToSend → Option MessageToSend
 accepted_message s message = accepted_by s.left message
 
-abbrev pub state_with : State → Option MessageToSend → State
+abbrev pub state_with : SenderState → Option MessageToSend → SenderState
 state_with s message = record s { left = left_with_message s.left message }
 
-abbrev pub leave_answer : State → Option Kind → List ℕ → Result (Unit {0}) Refusal
+abbrev pub leave_answer : SenderState → Option Kind → List ℕ → Result (Unit {0}) Refusal
 leave_answer s kind values = left_answer s.left kind values
 
-abbrev pub state_after_leave : State → Option Kind → List ℕ → State
+abbrev pub state_after_leave : SenderState → Option Kind → List ℕ → SenderState
 state_after_leave s kind values = record s { left = left_after_leave s.left kind values }
 
 -- a sender as its calls see it
 pub record Sender : Type 0 where
   pub made : Made
-  pub state : State
+  pub state : SenderState
 
 abbrev pub new_sender : List ℕ → List ℕ → Sender
-new_sender calendar trail = record { made = record { calendar = calendar; trail = trail }; state = new_state }
+new_sender calendar trail = record { made = record { calendar = calendar; trail = trail }; state = new_sender_state }
 
-abbrev pub with_state : Sender → State → Sender
+abbrev pub with_state : Sender → SenderState → Sender
 with_state s state = record s { state = state }
 
 -- a send, and the item that begins between frames

@@ -3,7 +3,7 @@
 ghost use Rattle.sending.specs.Life.{CallsLengthen};
 ghost use Rattle.sending.specs.LineLaws.{SendsItsItems, ItemsInPlace, GapsNeverStart, CyclesWhole, CycleBlocks, RunsLined};
 ghost use Rattle.sending.specs.ClientLaws.{SlotsFilled, LaidWhole, FramesCarry, StretchesCarry, TakesWaiting, GivenLeaves, OthersKeep};
-ghost use Rattle.sending.specs.MessageLaws.{RefusedKeeps, MessagesSent, MessagesOnTime, MessagesEnd, FirstStarts};
+ghost use Rattle.sending.specs.MessageLaws.{RefusedKeeps, MessagesSent, MessagesOnTime, OnlyLeftMessages, MessagesEnd, FirstStarts};
 
 /// Each call makes a life longer by one.
 pub fn the_calls()
@@ -36,6 +36,7 @@ pub fn the_messages()
     ensures refused { RefusedKeeps }
     ensures sent { MessagesSent }
     ensures on_time { MessagesOnTime }
+    ensures only { OnlyLeftMessages }
     ensures first { FirstStarts }
     ensures end { MessagesEnd }
 {}

@@ -73,8 +73,8 @@ impl Outgoing {
         Ok(())
     }
 
-    #[tactic(auto, using(crate::proofs::Leavings::lent, crate::proofs::Leavings::none_while, crate::proofs::Leavings::between))]
     /// The payload of the next frame, to be filled; none while a frame is being sent.
+    #[tactic(auto, using(crate::proofs::Leavings::lent, crate::proofs::Leavings::none_while, crate::proofs::Leavings::between))]
     pub fn payload_mut(&mut self) -> Option<&mut Payload>
         ensures* writes_back { sem 𝓛 (LendsPayload self.entry result) }
         ensures between { IsSome result ↔ (self.old.rest ≡ []) }

@@ -8,7 +8,7 @@ use Rattle.message.specs.Values.{filled_values, lawful}
 use Rattle.message.specs.Written.{message_blocks}
 use Rattle.waiting.specs.declared.Sort.{Sort}
 use Rattle.waiting.specs.declared.Sort.TheVariants.{Delay, Protection}
-use Rattle.waiting.specs.Messages.{MessageToSend, Waiting, message_of_kind, sort_of, waits}
+use Rattle.waiting.specs.Messages.{MessageToSend, WaitingMessage, message_of_kind, sort_of, waits}
 use Rattle.waiting.specs.Left.{Left, accepted_by, answer_by, left_with_message, waiting_in}
 
 -- a lawful message of a kind, by the kind's sort
@@ -50,28 +50,28 @@ left_either l true w x e = ap (λ (t : Bool). left_with_message l (if t then Non
     go false = refl
 left_either l false w x e = refl
 
-delay_then : (l : Left) (b w : Bool) (n : Waiting)
+delay_then : (l : Left) (b w : Bool) (n : WaitingMessage)
     → record { delay = (if b then (if w then l.delay else n) else l.delay); protection = l.protection } ≡ (if b then (if w then l else record l { delay = n }) else l)
 delay_then l true true n = refl
 delay_then l true false n = refl
 delay_then l false w n = refl
 
-protection_then : (l : Left) (b w : Bool) (n : Waiting)
+protection_then : (l : Left) (b w : Bool) (n : WaitingMessage)
     → record { delay = l.delay; protection = (if b then (if w then l.protection else n) else l.protection) } ≡ (if b then (if w then l else record l { protection = n }) else l)
 protection_then l true true n = refl
 protection_then l true false n = refl
 protection_then l false w n = refl
 
-pub delay_left : (l : Left) (k : Kind) (vs : List ℕ) (d : Waiting) → sort_of k ≡ Some Delay
+pub delay_left : (l : Left) (k : Kind) (vs : List ℕ) (d : WaitingMessage) → sort_of k ≡ Some Delay
     → d ≡ (if lawful k vs then (if waits l.delay then l.delay else record { blocks = message_blocks k (filled_values vs); gone = 0 }) else l.delay)
     → record { delay = d; protection = l.protection } ≡ after_message l (message_of_kind k vs)
 delay_left l k vs d e h =
-    let set : Waiting → Left = λ x. record { delay = x; protection = l.protection } in
+    let set : WaitingMessage → Left = λ x. record { delay = x; protection = l.protection } in
     ap set h ∙ delay_then l (lawful k vs) (waits l.delay) _ ∙ sym (ap (after_message l) (message_is k Delay vs e) ∙ left_either l (lawful k vs) (waits l.delay) _ refl)
 
-pub protection_left : (l : Left) (k : Kind) (vs : List ℕ) (d : Waiting) → sort_of k ≡ Some Protection
+pub protection_left : (l : Left) (k : Kind) (vs : List ℕ) (d : WaitingMessage) → sort_of k ≡ Some Protection
     → d ≡ (if lawful k vs then (if waits l.protection then l.protection else record { blocks = message_blocks k (filled_values vs); gone = 0 }) else l.protection)
     → record { delay = l.delay; protection = d } ≡ after_message l (message_of_kind k vs)
 protection_left l k vs d e h =
-    let set : Waiting → Left = λ x. record { delay = l.delay; protection = x } in
+    let set : WaitingMessage → Left = λ x. record { delay = l.delay; protection = x } in
     ap set h ∙ protection_then l (lawful k vs) (waits l.protection) _ ∙ sym (ap (after_message l) (message_is k Protection vs e) ∙ left_either l (lawful k vs) (waits l.protection) _ refl)

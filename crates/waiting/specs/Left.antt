@@ -6,21 +6,21 @@ use Rattle.refusal.specs.declared.Refusal.TheVariants.{MessageInvalid, MessageWa
 use Rattle.message.specs.declared.Kind.{Kind}
 use Rattle.waiting.specs.declared.Sort.{Sort}
 use Rattle.waiting.specs.declared.Sort.TheVariants.{Delay, Protection}
-use Rattle.waiting.specs.Messages.{MessageToSend, Waiting, message_to_send, next_block, nothing_waits, with_one_gone, waits}
+use Rattle.waiting.specs.Messages.{MessageToSend, WaitingMessage, message_to_send, next_block, nothing_waits, with_one_gone, waits}
 
 pub record Left : Type 0 where
-  pub delay : Waiting
-  pub protection : Waiting
+  pub delay : WaitingMessage
+  pub protection : WaitingMessage
 
 abbrev pub nothing_left : Left
 nothing_left = record { delay = nothing_waits; protection = nothing_waits }
 
 -- what waits of a sort
-abbrev pub waiting_in : Left → Sort → Waiting
+abbrev pub waiting_in : Left → Sort → WaitingMessage
 waiting_in l Delay = l.delay
 waiting_in l Protection = l.protection
 
-abbrev pub left_with : Left → Sort → Waiting → Left
+abbrev pub left_with : Left → Sort → WaitingMessage → Left
 left_with l Delay d = record l { delay = d }
 left_with l Protection d = record l { protection = d }
 

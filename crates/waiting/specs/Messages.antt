@@ -35,18 +35,18 @@ message_to_send None values = None
 message_to_send (Some kind) values = message_of_kind kind values
 
 -- what waits of a sort: a message's blocks, and how many of them are gone; with all of them gone none waits
-pub record Waiting : Type 0 where
+pub record WaitingMessage : Type 0 where
   pub blocks : List Block
   pub gone : ℕ
 
-abbrev pub nothing_waits : Waiting
+abbrev pub nothing_waits : WaitingMessage
 nothing_waits = record { blocks = []; gone = 0 }
 
-abbrev pub waits : Waiting → Bool
+abbrev pub waits : WaitingMessage → Bool
 waits d = nat_lt d.gone (length d.blocks)
 
-abbrev pub next_block : Waiting → Block
+abbrev pub next_block : WaitingMessage → Block
 next_block d = slice_index_or d.blocks d.gone idle_block
 
-abbrev pub with_one_gone : Waiting → Waiting
+abbrev pub with_one_gone : WaitingMessage → WaitingMessage
 with_one_gone d = record { blocks = d.blocks; gone = d.gone + 1 }

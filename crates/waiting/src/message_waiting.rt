@@ -26,9 +26,9 @@ pub(crate) struct MessageWaiting {
 impl Model for MessageWaiting {
     ghost use Rattle.std.specs.Prelude.{◌≡◌, ◌≤◌, length, take};
     ghost use Rattle.refusal.specs.declared.Refusal.TheVariants.{MessageInvalid, MessageWaits};
-    ghost use Rattle.waiting.specs.Messages.{Waiting};
+    ghost use Rattle.waiting.specs.Messages.{WaitingMessage};
 
-    ghost Value = { Waiting };
+    ghost Value = { WaitingMessage };
 
     ghost view = { λ w. record { blocks = take w.count w.blocks; gone = w.gone } };
 

@@ -1,3 +1,4 @@
 pub mod Shape
 pub mod Back
 pub mod Only
+pub mod Alter

@@ -1,7 +1,6 @@
 -- What is read could be sent, and something can be sent.
 use Rattle.std.proofs.Common.{◌≡◌, ℕ, List, length, drop, replicate, Ok, Err, Result, sym, ap, ◌∙◌, subst, lit<, lit≤}
 use Rattle.std.specs.List.{All}
-use Rattle.block.specs.declared.Block.{Block}
 use Rattle.block.specs.declared.Pair.{Pair}
 use Rattle.block.specs.Whole.{WholePair}
 use Rattle.payload.specs.Payloads.{pairs_of}

@@ -1,5 +1,5 @@
 -- The shape of frames and altered frames, and that their blocks are whole.
-use Rattle.std.proofs.Common.{◌≡◌, ℕ, zero, suc, ◌+◌, ◌-◌, ◌*◌, ◌<◌, ◌≤◌, List, [], ◌∷◌, ◌++◌, length, take, drop, replicate, refl, ⊎_elim, sym, ap, ◌∙◌, subst, arith, length-append, length-drop, lit<, lit≤}
+use Rattle.std.proofs.Common.{◌≡◌, ℕ, zero, suc, ◌+◌, ◌-◌, ◌*◌, ◌<◌, List, [], ◌∷◌, ◌++◌, length, take, drop, replicate, refl, ⊎_elim, sym, ap, ◌∙◌, subst, arith, length-append, length-drop, lit<}
 use Rattle.std.specs.Prelude.{Some, slice_get}
 use Rattle.std.specs.Option.{option_map}
 use Rattle.std.specs.List.{All}
@@ -7,9 +7,7 @@ use Rattle.std.proofs.lemmas.Bool.{cases_eq}
 use Rattle.std.proofs.lemmas.List.{length-take-le}
 use Rattle.block.specs.declared.Block.{Block}
 use Rattle.block.specs.declared.Pair.{Pair}
-use Rattle.block.specs.declared.Sync.{Sync}
-use Rattle.block.specs.declared.Sync.TheVariants.{Data as DataSync}
-use Rattle.block.specs.declared.Class.TheVariants.{Data, End}
+use Rattle.block.specs.declared.Class.TheVariants.{Data}
 use Rattle.block.specs.Classes.{class_of}
 use Rattle.block.proofs.Classes.{classes_told}
 use Rattle.block.specs.Fixed.{start_block}
@@ -21,7 +19,7 @@ use Rattle.frame.specs.Frames.{Shaped, frame_block, frame_of}
 use Rattle.frame.proofs.Carried.{frame_data}
 use Rattle.frame.proofs.Frames.{frame_at, frame_length, frame_shaped}
 use Rattle.whole_frame.specs.Meaning.{frame_written}
-use Rattle.whole_frame.specs.Laws.{Altered, AlteredShaped}
+use Rattle.whole_frame.specs.Laws.{AlteredShaped}
 use Rattle.payload.proofs.Payloads.{payload_is_bytes, payload_length}
 
 pub written_shaped : (f : Fields) (pairs : List Pair) → Shaped (frame_written f pairs)

@@ -1,5 +1,5 @@
 -- What is read is what was written, and few changed overhead bits are seen.
-use Rattle.std.specs.Prelude.{◌≡◌, ℕ, ◌<◌, ◌≤◌, List, ◌∷◌, length, take, Ok, Err}
+use Rattle.std.specs.Prelude.{◌≡◌, ◌<◌, ◌≤◌, List, ◌∷◌, length, take, Ok, Err}
 use Rattle.std.specs.List.{All}
 use Rattle.block.specs.declared.Block.{Block}
 use Rattle.block.specs.declared.Pair.{Pair}
@@ -52,3 +52,10 @@ pub record SomeSendable : Type 0 where
   pub fields : Fields
   pub pairs : List Pair
   pub sendable : Sendable fields pairs
+
+pub record Alterable (f : Fields) (pairs : List Pair) : Type 0 where
+  pub came : List Block
+  pub altered : Altered (frame_written f pairs) came
+
+abbrev pub EachAlterable : Type 0
+EachAlterable = (f : Fields) (pairs : List Pair) → Alterable f pairs

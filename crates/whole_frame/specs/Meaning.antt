@@ -1,5 +1,5 @@
 -- What a frame says: the 992 blocks that say it, and what 992 blocks are read as.
-use Rattle.std.specs.Prelude.{ℕ, List, ◌++◌, take, drop, Ok, Err, Result}
+use Rattle.std.specs.Prelude.{List, ◌++◌, take, drop, Ok, Err, Result}
 use Rattle.block.specs.declared.Block.{Block}
 use Rattle.block.specs.declared.Pair.{Pair}
 use Rattle.payload.specs.Payloads.{pairs_of, payload_of}

@@ -7,7 +7,7 @@ ghost use Rattle.frame.specs.Frames.{carried_by};
 ghost use Rattle.overhead.specs.Format.{fields_answer, fields_of};
 ghost use Rattle.overhead.specs.Laws.{IsOverhead};
 ghost use Rattle.payload.specs.Payloads.{pairs_of, payload_of};
-ghost use Rattle.whole_frame.specs.Laws.{AlteredShaped, FramesCoded, OnlySendable, SomeSendable};
+ghost use Rattle.whole_frame.specs.Laws.{AlteredShaped, EachAlterable, FramesCoded, OnlySendable, SomeSendable};
 ghost use Rattle.whole_frame.specs.Meaning.{content_with, frame_read, frame_written};
 
 use block::{Block, Pair};
@@ -22,6 +22,7 @@ pub fn frames_are_coded()
     ensures altered { AlteredShaped }
     ensures only { OnlySendable }
     ensures some { SomeSendable }
+    ensures alterable { EachAlterable }
 {}
 
 /// Writes the 992 blocks of the frame that says this and carries these pairs; the payload is left as they are packed.
