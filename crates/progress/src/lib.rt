@@ -5,6 +5,7 @@
 
 ghost use Rattle.std.specs.Prelude.{◌≡◌, Some};
 ghost use Rattle.progress.specs.Goals.{begun, counted, is_last, is_learning, is_none};
+ghost use Rattle.progress.specs.Laws.{CountLaws};
 ghost use Rattle.progress.specs.Reports.{report_text};
 
 use block::Block;
@@ -82,6 +83,12 @@ impl Progress {
         }
     }
 }
+
+/// What the count says of blocks sent one after another: how many frames have ended, and where sending is over.
+#[tactic(auto, using(crate::proofs::Counts::count_laws))]
+pub fn count_laws_hold()
+    ensures { CountLaws }
+{}
 
 /// What is told of sending.
 #[derive(Clone, Copy, Debug, PartialEq, Eq)]
