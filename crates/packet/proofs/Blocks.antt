@@ -5,8 +5,9 @@ use Rattle.std.specs.Simd.{first_chunks}
 use Rattle.std.proofs.lemmas.List.{drop-replicate, drop-drop, set_at, drop_all, drop_more, drop-set-lt, append_assoc, length-set}
 use Rattle.block.specs.declared.Block.{Block}
 use Rattle.block.specs.declared.Sync.TheVariants.{Control}
+use Rattle.block.specs.Classes.{end_types}
 use Rattle.block.specs.Fixed.{idle_block}
-use Rattle.packet.specs.Format.{opening, block_count, HasBlocks, SixtyFourBytes, end_types, end_block, data_block, data_blocks, blocks_of}
+use Rattle.packet.specs.Format.{opening, block_count, HasBlocks, SixtyFourBytes, end_block, data_block, data_blocks, packet_blocks}
 use Rattle.packet.specs.Answers.{over}
 
 -- an end as code makes it: eight zeros, then its type, then the bytes
@@ -31,16 +32,16 @@ data_blocks_more n p = rw add-one (go n p)
         let e : 8 + 8 * n ≡ 8 * suc n = omega arith in
         ap (λ l. data_block (take 8 p) ∷ l) (go n (drop 8 p) ∙ rw (drop-drop, e) refl)
 
-pub length_blocks_of : (p : List ℕ) → length (blocks_of p) ≡ block_count (length p)
-unfolding blocks_of
-length_blocks_of p = simp (length-append, length_data_blocks) (omega arith)
+pub length_packet_blocks : (p : List ℕ) → length (packet_blocks p) ≡ block_count (length p)
+unfolding packet_blocks
+length_packet_blocks p = simp (length-append, length_data_blocks) (omega arith)
 
 pub has_blocks : (bytes : ℕ) → HasBlocks bytes (block_count bytes)
-has_blocks bytes p e = length_blocks_of p ∙ ap block_count e
+has_blocks bytes p e = length_packet_blocks p ∙ ap block_count e
 
 pub sixty_four : SixtyFourBytes
-unfolding blocks_of data_blocks end_block
-sixty_four p e = (length_blocks_of p ∙ ap block_count e, rw (e, drop_all 64 p (omega arith)) refl)
+unfolding packet_blocks data_blocks end_block
+sixty_four p e = (length_packet_blocks p ∙ ap block_count e, rw (e, drop_all 64 p (omega arith)) refl)
 
 -- the i-th chunk of eight bytes, and what is left behind n of them
 pub chunk_is : (n i : ℕ) (p d : List ℕ) → i < n → get_or (first_chunks 8 n p) i d ≡ take 8 (drop (8 * i) p)
@@ -82,14 +83,14 @@ ended n ds out made e i k l m =
     let second = front_more (ds ++ (e ∷ [])) (set out 0 opening) (set made (n + 1) e) (n + 2) i (rw two at first) (simp length-append (omega arith)) (omega arith) in
     second ∙ rw (three, drop-set-lt (n + 3) out 0 opening (omega arith), append_assoc ds) refl
 
-pub blocks_are : (p : List ℕ) → blocks_of p ≡ opening ∷ (data_blocks (length p / 8) p ++ (end_block (drop (8 * (length p / 8)) p) ∷ idle_block ∷ []))
-unfolding blocks_of
+pub blocks_are : (p : List ℕ) → packet_blocks p ≡ opening ∷ (data_blocks (length p / 8) p ++ (end_block (drop (8 * (length p / 8)) p) ∷ idle_block ∷ []))
+unfolding packet_blocks
 blocks_are p = refl
 
 -- behind all data blocks, the end and the idle complete the packet
-pub completed : (p : List ℕ) (out made : List Block) (e i : Block) → length p / 8 + 3 ≤ length out → made ≡ (opening ∷ data_blocks (length p / 8) p) ++ drop (length p / 8 + 1) (set out 0 opening) → e ≡ end_block (drop (8 * (length p / 8)) p) → i ≡ idle_block → set (set made (length p / 8 + 1) e) (length p / 8 + 2) i ≡ over (blocks_of p) out
+pub completed : (p : List ℕ) (out made : List Block) (e i : Block) → length p / 8 + 3 ≤ length out → made ≡ (opening ∷ data_blocks (length p / 8) p) ++ drop (length p / 8 + 1) (set out 0 opening) → e ≡ end_block (drop (8 * (length p / 8)) p) → i ≡ idle_block → set (set made (length p / 8 + 1) e) (length p / 8 + 2) i ≡ over (packet_blocks p) out
 completed p out made e i l m f g =
-    rw (length_blocks_of p, f, g, blocks_are p) (ended (length p / 8) (opening ∷ data_blocks (length p / 8) p) out made _ _ (simp length_data_blocks (omega arith)) l m)
+    rw (length_packet_blocks p, f, g, blocks_are p) (ended (length p / 8) (opening ∷ data_blocks (length p / 8) p) out made _ _ (simp length_data_blocks (omega arith)) l m)
 
 -- a block by its place
 nth_data : (n at : ℕ) (p : List ℕ) (behind : List Block) → at < n → slice_get (data_blocks n p ++ behind) at ≡ Some (data_block (take 8 (drop (8 * at) p)))
@@ -109,16 +110,16 @@ nth_behind (x ∷ xs) ys (suc at) l =
 
 module _ (p : List ℕ) (place : ℕ) where
   -- the blocks behind the opening
-  behind : 0 < place → slice_get (blocks_of p) place ≡ slice_get (data_blocks (length p / 8) p ++ (end_block (drop (8 * (length p / 8)) p) ∷ idle_block ∷ [])) (place - 1)
-  behind l = let e : place ≡ suc (place - 1) = omega arith in ap (slice_get (blocks_of p)) e ∙ rw (blocks_are p) refl
+  behind : 0 < place → slice_get (packet_blocks p) place ≡ slice_get (data_blocks (length p / 8) p ++ (end_block (drop (8 * (length p / 8)) p) ∷ idle_block ∷ [])) (place - 1)
+  behind l = let e : place ≡ suc (place - 1) = omega arith in ap (slice_get (packet_blocks p)) e ∙ rw (blocks_are p) refl
 
-  pub at_opening : place ≡ 0 → Some opening ≡ slice_get (blocks_of p) place
+  pub at_opening : place ≡ 0 → Some opening ≡ slice_get (packet_blocks p) place
   at_opening e = rw (blocks_are p, e) refl
 
-  pub at_data : 0 < place → place - 1 < length p / 8 → (b : Block) → b ≡ data_block (take 8 (drop (8 * (place - 1)) p)) → Some b ≡ slice_get (blocks_of p) place
+  pub at_data : 0 < place → place - 1 < length p / 8 → (b : Block) → b ≡ data_block (take 8 (drop (8 * (place - 1)) p)) → Some b ≡ slice_get (packet_blocks p) place
   at_data l k b e = ap Some e ∙ sym (behind l ∙ nth_data (length p / 8) (place - 1) p _ k)
 
-  pub at_last : 0 < place → length p / 8 ≤ place - 1 → slice_get (blocks_of p) place ≡ slice_get (end_block (drop (8 * (length p / 8)) p) ∷ idle_block ∷ []) (place - 1 - length p / 8)
+  pub at_last : 0 < place → length p / 8 ≤ place - 1 → slice_get (packet_blocks p) place ≡ slice_get (end_block (drop (8 * (length p / 8)) p) ∷ idle_block ∷ []) (place - 1 - length p / 8)
   at_last l k =
       let n = length_data_blocks (length p / 8) p in
       behind l ∙ nth_behind (data_blocks (length p / 8) p) _ (place - 1) (omega (arith, n)) ∙ rw n refl

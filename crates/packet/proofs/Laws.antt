@@ -9,9 +9,10 @@ use Rattle.block.specs.Classes.{control_class}
 use Rattle.refusal.specs.declared.Refusal.{Refusal}
 use Rattle.refusal.specs.declared.Refusal.TheVariants.{NoPacket, OutputTooShort}
 use Rattle.block.specs.Fixed.{idle_block}
-use Rattle.packet.specs.Format.{in_range, end_types, end_block, data_blocks, blocks_of}
-use Rattle.packet.specs.Reading.{prefixed, carried, sized, opens, packet_at}
-use Rattle.packet.specs.Spans.{Spans, spanned}
+use Rattle.block.specs.Classes.{end_types}
+use Rattle.packet.specs.Format.{is_packet_length, end_block, data_blocks, packet_blocks}
+use Rattle.packet.specs.Reading.{with_bytes_before, found_to_end, found_of_length, opens, packet_at}
+use Rattle.packet.specs.Spans.{Spans, span_bytes}
 use Rattle.packet.specs.Answers.{over, leaves, read_answer, bytes_of, GivesBack}
 
 end_class_is : (n : ℕ) → n < 8 → (rest : List ℕ) → control_class (get_or end_types n 0 ∷ rest) ≡ End n
@@ -25,36 +26,36 @@ end_class_is (suc (suc (suc (suc (suc (suc zero)))))) l rest = refl
 end_class_is (suc (suc (suc (suc (suc (suc (suc zero))))))) l rest = refl
 end_class_is (suc (suc (suc (suc (suc (suc (suc (suc n)))))))) l rest = absurd (omega arith)
 
-carried_end : (left : List ℕ) (bs : List Block) → length left < 8 → carried (end_block left ∷ bs) ≡ Some (left, 1)
-unfolding carried end_block
+carried_end : (left : List ℕ) (bs : List Block) → length left < 8 → found_to_end (end_block left ∷ bs) ≡ Some (left, 1)
+unfolding found_to_end end_block
 carried_end left bs l =
-    rw (carried, end_class_is (length left) l (left ++ replicate (7 - length left) 0), take_at left (replicate (7 - length left) 0) (length left) refl) refl
+    rw (found_to_end, end_class_is (length left) l (left ++ replicate (7 - length left) 0), take_at left (replicate (7 - length left) 0) (length left) refl) refl
 
-carried_data : (n : ℕ) (p left : List ℕ) (bs : List Block) → length left < 8 → carried (data_blocks n p ++ (end_block left ∷ bs)) ≡ Some (take (8 * n) p ++ left, n + 1)
-unfolding carried data_blocks
+carried_data : (n : ℕ) (p left : List ℕ) (bs : List Block) → length left < 8 → found_to_end (data_blocks n p ++ (end_block left ∷ bs)) ≡ Some (take (8 * n) p ++ left, n + 1)
+unfolding found_to_end data_blocks
 carried_data zero p left bs f = carried_end left bs f
 carried_data (suc n) p left bs f =
     let more : 8 + 8 * n ≡ 8 * suc n = omega arith in
     let one : 1 + (n + 1) ≡ suc n + 1 = omega arith in
     let bytes : take 8 p ++ (take (8 * n) (drop 8 p) ++ left) ≡ take (8 * suc n) p ++ left =
     sym (append_assoc (take 8 p) (take (8 * n) (drop 8 p)) left) ∙ ap (λ xs. xs ++ left) (sym (take-add 8 (8 * n) p) ∙ ap (λ m. take m p) more) in
-    ap (prefixed (take 8 p)) (carried_data n (drop 8 p) left bs f)
+    ap (with_bytes_before (take 8 p)) (carried_data n (drop 8 p) left bs f)
     ∙ ap (λ m. Some (take 8 p ++ (take (8 * n) (drop 8 p) ++ left), m)) one
     ∙ ap (λ xs. Some (xs, suc n + 1)) bytes
 
 -- the packet at the front of its own blocks, whatever stands behind them
-pub round : (p : List ℕ) (behind : List Block) → in_range (length p) ≡ true → packet_at (blocks_of p ++ behind) ≡ Some (p, 2 + length p / 8)
-unfolding packet_at blocks_of
+pub round : (p : List ℕ) (behind : List Block) → is_packet_length (length p) ≡ true → packet_at (packet_blocks p ++ behind) ≡ Some (p, 2 + length p / 8)
+unfolding packet_at packet_blocks
 round p behind t =
     let n : ℕ = length p / 8 in
     let left : List ℕ = drop (8 * n) p in
     let few : length left < 8 = simp length-drop (omega arith) in
     let two : 1 + (n + 1) ≡ 2 + n = omega arith in
-    let all : carried ((data_blocks n p ++ (end_block left ∷ idle_block ∷ [])) ++ behind) ≡ Some (p, n + 1) =
-    ap carried (append_assoc (data_blocks n p) (end_block left ∷ idle_block ∷ []) behind)
+    let all : found_to_end ((data_blocks n p ++ (end_block left ∷ idle_block ∷ [])) ++ behind) ≡ Some (p, n + 1) =
+    ap found_to_end (append_assoc (data_blocks n p) (end_block left ∷ idle_block ∷ []) behind)
     ∙ carried_data n p left (idle_block ∷ behind) few
     ∙ ap (λ xs. Some (xs, n + 1)) (take-append-drop (8 * n) p) in
-    ap (λ f. prefixed [] (sized f)) all ∙ rw (t, two) refl
+    ap (λ f. with_bytes_before [] (found_of_length f)) all ∙ rw (t, two) refl
 
 -- so the reader, whose answers these are, gives the packet back
 pub given_back : (blocks : List Block) (before after : List ℕ) (r : Result (ℕ × ℕ) Refusal) → r ≡ read_answer (packet_at blocks) (length before) → after ≡ leaves r (bytes_of (packet_at blocks)) before → GivesBack blocks before r after
@@ -68,11 +69,11 @@ pub none_unopened : (blocks : List Block) → false ≡ opens blocks → packet_
 unfolding packet_at
 none_unopened blocks e = rw (sym e) refl
 
-pub none_behind : (blocks behind : List Block) → true ≡ opens blocks → behind ≡ drop 1 blocks → sized (carried behind) ≡ None → packet_at blocks ≡ None
+pub none_behind : (blocks behind : List Block) → true ≡ opens blocks → behind ≡ drop 1 blocks → found_of_length (found_to_end behind) ≡ None → packet_at blocks ≡ None
 unfolding packet_at
 none_behind blocks behind o b e = rw (sym o, sym b, e) refl
 
-pub found_behind : (blocks behind : List Block) (whole left : ℕ) → true ≡ opens blocks → behind ≡ drop 1 blocks → Spans behind (sized (carried behind)) whole left → packet_at blocks ≡ Some (spanned behind whole left, whole + 2)
+pub found_behind : (blocks behind : List Block) (whole left : ℕ) → true ≡ opens blocks → behind ≡ drop 1 blocks → Spans behind (found_of_length (found_to_end behind)) whole left → packet_at blocks ≡ Some (span_bytes behind whole left, whole + 2)
 unfolding packet_at
 found_behind blocks behind whole left o b s =
     let two : 1 + (whole + 1) ≡ whole + 2 = omega arith in

@@ -3,7 +3,7 @@ use Rattle.std.specs.Prelude.{◌≡◌, ℕ, ◌+◌, ◌/◌, ◌≤◌, true,
 use Rattle.block.specs.declared.Block.{Block}
 use Rattle.refusal.specs.declared.Refusal.{Refusal}
 use Rattle.refusal.specs.declared.Refusal.TheVariants.{PacketLength, NoPacket, OutputTooShort}
-use Rattle.packet.specs.Format.{in_range, blocks_of}
+use Rattle.packet.specs.Format.{is_packet_length, packet_blocks}
 use Rattle.packet.specs.Reading.{Found}
 
 -- an output with new entries at its front, the rest as before
@@ -18,7 +18,7 @@ leaves (Err _) front out = out
 -- the writer's answer for an output of so many places: the number of blocks
 abbrev pub write_answer : List ℕ → ℕ → Result ℕ Refusal
 write_answer p places =
-    if in_range (length p) then (if nat_le (length (blocks_of p)) places then Ok (length (blocks_of p)) else Err OutputTooShort) else Err PacketLength
+    if is_packet_length (length p) then (if nat_le (length (packet_blocks p)) places then Ok (length (packet_blocks p)) else Err OutputTooShort) else Err PacketLength
 
 -- the reader's answer for an output of so many places: the packet's length and the blocks used
 abbrev pub read_answer : Found → ℕ → Result (ℕ × ℕ) Refusal
@@ -34,5 +34,5 @@ bytes_of (Some found) = found.0
 -- Where a packet's blocks stand at the front, whatever stands behind them, reading them gives the packet back.
 abbrev pub GivesBack : List Block → List ℕ → Result (ℕ × ℕ) Refusal → List ℕ → Type 0
 GivesBack blocks before r after =
-    (p : List ℕ) (behind : List Block) → blocks ≡ blocks_of p ++ behind → in_range (length p) ≡ true → length p ≤ length before →
+    (p : List ℕ) (behind : List Block) → blocks ≡ packet_blocks p ++ behind → is_packet_length (length p) ≡ true → length p ≤ length before →
     (r ≡ Ok (length p, 2 + length p / 8)) × (after ≡ over p before)

@@ -2,19 +2,16 @@
 use Rattle.std.specs.Prelude.{◌≡◌, ℕ, zero, suc, ◌+◌, ◌-◌, ◌*◌, ◌/◌, Bool, false, if◌then◌else◌, List, [], ◌∷◌, ◌++◌, length, take, drop, replicate, nat_le, slice_index, slice_index_or}
 use Rattle.block.specs.declared.Block.{Block}
 use Rattle.block.specs.declared.Sync.TheVariants.{Control, Data}
+use Rattle.block.specs.Classes.{end_types}
 use Rattle.block.specs.Fixed.{idle_block}
 
 -- a packet has 64 to 2,000 bytes
-abbrev pub in_range : ℕ → Bool
-in_range n = if nat_le 64 n then nat_le n 2000 else false
+abbrev pub is_packet_length : ℕ → Bool
+is_packet_length n = if nat_le 64 n then nat_le n 2000 else false
 
 -- the start block of a packet
 abbrev pub opening : Block
 opening = record { sync = Control; bytes = 0x78 ∷ 0x55 ∷ 0x55 ∷ 0x55 ∷ 0x55 ∷ 0x55 ∷ 0x55 ∷ 0xD5 ∷ [] }
-
--- an end's type tells how many bytes it carries: the place of the type in this list
-abbrev pub end_types : List ℕ
-end_types = 0x87 ∷ 0x99 ∷ 0xAA ∷ 0xB4 ∷ 0xCC ∷ 0xD2 ∷ 0xE1 ∷ 0xFF ∷ []
 
 -- the end that carries fewer than eight bytes, padded with zeros
 unfoldable pub end_block : List ℕ → Block
@@ -30,8 +27,8 @@ data_blocks zero bytes = []
 data_blocks (suc n) bytes = data_block (take 8 bytes) ∷ data_blocks n (drop 8 bytes)
 
 -- all blocks of a packet
-unfoldable pub blocks_of : List ℕ → List Block
-blocks_of p =
+unfoldable pub packet_blocks : List ℕ → List Block
+packet_blocks p =
     let whole : ℕ = length p / 8 in
     opening ∷ (data_blocks whole p ++ (end_block (drop (8 * whole) p) ∷ idle_block ∷ []))
 
@@ -41,10 +38,10 @@ block_count bytes = bytes / 8 + 3
 
 -- every packet has as many blocks
 abbrev pub HasBlocks : ℕ → ℕ → Type 0
-HasBlocks bytes count = (p : List ℕ) → length p ≡ bytes → length (blocks_of p) ≡ count
+HasBlocks bytes count = (p : List ℕ) → length p ≡ bytes → length (packet_blocks p) ≡ count
 
 -- 64 bytes make 11 blocks, the tenth of which is the end 87 with no bytes
 abbrev pub SixtyFourBytes : Type 0
 SixtyFourBytes =
     (p : List ℕ) → length p ≡ 64 →
-    (length (blocks_of p) ≡ 11) × (slice_index_or (blocks_of p) 9 idle_block ≡ record { sync = Control; bytes = 0x87 ∷ 0 ∷ 0 ∷ 0 ∷ 0 ∷ 0 ∷ 0 ∷ 0 ∷ [] })
+    (length (packet_blocks p) ≡ 11) × (slice_index_or (packet_blocks p) 9 idle_block ≡ record { sync = Control; bytes = 0x87 ∷ 0 ∷ 0 ∷ 0 ∷ 0 ∷ 0 ∷ 0 ∷ 0 ∷ [] })

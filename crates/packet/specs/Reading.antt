@@ -5,23 +5,23 @@ use Rattle.block.specs.declared.Block.{Block}
 use Rattle.block.specs.declared.Sync.TheVariants.{Zeros, Control, Data as DataSync, Ones}
 use Rattle.block.specs.declared.Class.TheVariants.{Data, Idle, Characters, OrderedSet, Start, End, Unlawful}
 use Rattle.block.specs.Classes.{class_of}
-use Rattle.packet.specs.Format.{in_range, opening}
+use Rattle.packet.specs.Format.{is_packet_length, opening}
 
 -- the bytes of a packet, and the blocks that they take
 abbrev pub Found : Type 0
 Found = Option (List ℕ × ℕ)
 
 -- the same with one more block in front, which carries these bytes
-abbrev pub prefixed : List ℕ → Found → Found
-prefixed bytes None = None
-prefixed bytes (Some found) = Some (bytes ++ found.0, 1 + found.1)
+abbrev pub with_bytes_before : List ℕ → Found → Found
+with_bytes_before bytes None = None
+with_bytes_before bytes (Some found) = Some (bytes ++ found.0, 1 + found.1)
 
 -- data blocks and the end behind them; an end carries bytes 1 onward, as many as its type says
-unfoldable pub carried : List Block → Found
-carried [] = None
-carried (b ∷ bs) =
+unfoldable pub found_to_end : List Block → Found
+found_to_end [] = None
+found_to_end (b ∷ bs) =
     elim (class_of b) [
-      | Data ↦ prefixed b.bytes (carried bs)
+      | Data ↦ with_bytes_before b.bytes (found_to_end bs)
       | Idle ↦ None
       | Characters ↦ None
       | OrderedSet ↦ None
@@ -31,9 +31,9 @@ carried (b ∷ bs) =
     ]
 
 -- only if the bytes are as many as a packet may have
-abbrev pub sized : Found → Found
-sized None = None
-sized (Some found) = if in_range (length found.0) then Some found else None
+abbrev pub found_of_length : Found → Found
+found_of_length None = None
+found_of_length (Some found) = if is_packet_length (length found.0) then Some found else None
 
 -- is the first block the start block of a packet, sync and all bytes?
 abbrev pub opens : List Block → Bool
@@ -42,4 +42,4 @@ opens (b ∷ bs) = elim b.sync [ Zeros ↦ false | Control ↦ bytes_eq b.bytes 
 
 -- the packet at the front: the opening, data blocks and an end
 unfoldable pub packet_at : List Block → Found
-packet_at bs = if opens bs then prefixed [] (sized (carried (drop 1 bs))) else None
+packet_at bs = if opens bs then with_bytes_before [] (found_of_length (found_to_end (drop 1 bs))) else None

@@ -9,12 +9,12 @@ abbrev pub bytes_in : Block → List ℕ
 bytes_in b = b.bytes
 
 -- the bytes of the first `whole` blocks, and `left` bytes of the block behind them
-abbrev pub spanned : List Block → ℕ → ℕ → List ℕ
-spanned bs whole left = flat_map bytes_in (take whole bs) ++ take left (drop 1 (slice_index_or bs whole opening).bytes)
+abbrev pub span_bytes : List Block → ℕ → ℕ → List ℕ
+span_bytes bs whole left = flat_map bytes_in (take whole bs) ++ take left (drop 1 (slice_index_or bs whole opening).bytes)
 
 -- what was found in the blocks spans `whole` data blocks and `left` bytes of an end
 pub record Spans (bs : List Block) (found : Found) (whole left : ℕ) : Type 0 where
-  pub is : found ≡ Some (spanned bs whole left, whole + 1)
-  pub long : length (spanned bs whole left) ≡ 8 * whole + left
+  pub is : found ≡ Some (span_bytes bs whole left, whole + 1)
+  pub long : length (span_bytes bs whole left) ≡ 8 * whole + left
   pub inside : whole < length bs
   pub few : left < 8

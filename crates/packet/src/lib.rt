@@ -7,11 +7,11 @@ ghost use Rattle.std.specs.Prelude.{◌≡◌, ◌+◌, ◌*◌, ◌<◌, ◌≤
 ghost use Rattle.std.specs.List.{slice_get};
 ghost use Rattle.block.specs.Classes.{class_of};
 ghost use Rattle.packet.specs.Answers.{GivesBack, bytes_of, leaves, read_answer, write_answer};
-ghost use Rattle.packet.specs.Format.{HasBlocks, SixtyFourBytes, block_count, blocks_of, data_block, end_block, in_range};
-ghost use Rattle.packet.specs.Reading.{carried, opens, packet_at, sized};
-ghost use Rattle.packet.specs.Spans.{Spans, spanned};
+ghost use Rattle.packet.specs.Format.{HasBlocks, SixtyFourBytes, block_count, packet_blocks, data_block, end_block, is_packet_length};
+ghost use Rattle.packet.specs.Reading.{found_to_end, opens, packet_at, found_of_length};
+ghost use Rattle.packet.specs.Spans.{Spans, span_bytes};
 
-use block::{Block, Class, Sync};
+use block::{Block, Class, END_TYPES, Sync};
 use refusal::Refusal;
 
 const SHORTEST: usize = 64;
@@ -24,12 +24,9 @@ const OPENING: Block = Block {
     bytes: [0x78, 0x55, 0x55, 0x55, 0x55, 0x55, 0x55, 0xD5],
 };
 
-// An end's type tells how many bytes it carries: its place in this array.
-const END_TYPES: [u8; 8] = [0x87, 0x99, 0xAA, 0xB4, 0xCC, 0xD2, 0xE1, 0xFF];
-
 /// May a packet have so many bytes?
 pub fn is_packet_length(bytes: usize) -> bool
-    ensures { result ≡ in_range bytes }
+    ensures { result ≡ is_packet_length bytes }
 {
     (SHORTEST..=LONGEST).contains(&bytes)
 }
@@ -69,7 +66,7 @@ fn data_block(bytes: [u8; 8]) -> Block
 
 /// The packet's block at a place, counted from 0; none behind the idle.
 pub fn block_at(packet: &[u8], place: usize) -> Option<Block>
-    ensures { result ≡ slice_get (blocks_of packet.now) place }
+    ensures { result ≡ slice_get (packet_blocks packet.now) place }
 {
     if place == 0 {
         return Some(OPENING);
@@ -90,7 +87,7 @@ pub fn block_at(packet: &[u8], place: usize) -> Option<Block>
 /// Writes the packet's blocks at the front of the output, and answers how many they are.
 pub fn write(packet: &[u8], out: &mut [Block]) -> Result<usize, Refusal>
     ensures answer { result ≡ write_answer packet.now (length out.old) }
-    ensures output { out.new ≡ leaves result (blocks_of packet.now) out.old }
+    ensures output { out.new ≡ leaves result (packet_blocks packet.now) out.old }
 {
     if !is_packet_length(packet.len()) {
         return Err(Refusal::PacketLength);
@@ -137,7 +134,7 @@ fn class_of(block: Block) -> Class
 
 // How far data blocks and the end behind them go; no packet has more than 250 data blocks.
 fn find_end(blocks: &[Block]) -> Option<Extent>
-    ensures { MatchOption result (sized (carried blocks.now) ≡ None) (λ e. Spans blocks.now (sized (carried blocks.now)) e.whole e.left) }
+    ensures { MatchOption result (found_of_length (found_to_end blocks.now) ≡ None) (λ e. Spans blocks.now (found_of_length (found_to_end blocks.now)) e.whole e.left) }
 {
     for (whole, block) in blocks.iter().enumerate() {
         match class_of(*block) {
@@ -169,7 +166,7 @@ fn copy_bytes(blocks: &[Block], extent: Extent, out: &mut [u8])
     requires inside { extent.whole < length blocks.now }
     requires few { extent.left < 8 }
     requires room { 8 * extent.whole + extent.left ≤ length out.old }
-    ensures { out.new ≡ spanned blocks.now extent.whole extent.left ++ drop (8 * extent.whole + extent.left) out.old }
+    ensures { out.new ≡ span_bytes blocks.now extent.whole extent.left ++ drop (8 * extent.whole + extent.left) out.old }
 {
     let Extent { whole, left } = extent;
     for (i, block) in blocks[..whole].iter().enumerate() {

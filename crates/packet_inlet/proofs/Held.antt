@@ -11,7 +11,7 @@ use Rattle.port.specs.Runs.{without_first}
 use Rattle.port.proofs.Lists.{updated_here, updated_same}
 use Rattle.port.proofs.Moves.{here_is, one_left}
 use Rattle.packet.specs.Answers.{GivesBack}
-use Rattle.packet.specs.Format.{blocks_of}
+use Rattle.packet.specs.Format.{packet_blocks}
 use Rattle.packet_inlet.specs.declared.reader.PacketReader.{PacketReader}
 use Rattle.packet_inlet.specs.Reader.{ComesBack, blocks_in_reach, blocks_to_read, held_blocks, reader_contents, reader_places}
 
@@ -162,7 +162,7 @@ pub comes_back :
     (to_read blocks : List Block) (places : ℕ) (before after : List ℕ) (r : Result (ℕ × ℕ) Refusal) →
     blocks ≡ take places to_read → GivesBack blocks before r after → ComesBack to_read places before r after
 comes_back to_read blocks places before after r e gives =
-    λ p behind q fits lawful room. let size : places ≡ length (blocks_of p) + (places - length (blocks_of p)) = omega arith in
-    gives p (take (places - length (blocks_of p)) behind)
-    (e ∙ ap (take places) q ∙ ap (λ n. take n (blocks_of p ++ behind)) size ∙ take-append-add (blocks_of p) behind (places - length (blocks_of p)))
+    λ p behind q fits lawful room. let size : places ≡ length (packet_blocks p) + (places - length (packet_blocks p)) = omega arith in
+    gives p (take (places - length (packet_blocks p)) behind)
+    (e ∙ ap (take places) q ∙ ap (λ n. take n (packet_blocks p ++ behind)) size ∙ take-append-add (packet_blocks p) behind (places - length (packet_blocks p)))
     lawful room

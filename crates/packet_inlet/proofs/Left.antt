@@ -6,9 +6,9 @@ use Rattle.std.proofs.lemmas.Bool.{cases_lt, eq-eqb}
 use Rattle.block.specs.declared.Block.{Block}
 use Rattle.port.specs.Model.{first_of, rest_of, lists_after_next}
 use Rattle.port.proofs.Lists.{by_client}
-use Rattle.packet.specs.Format.{opening, blocks_of}
+use Rattle.packet.specs.Format.{opening, packet_blocks}
 use Rattle.packet.proofs.Blocks.{blocks_are}
-use Rattle.packet_inlet.specs.Packets.{packets_of, blocks_of_all, are_lengths}
+use Rattle.packet_inlet.specs.Packets.{packets_of, all_packet_blocks, are_lengths}
 use Rattle.packet_inlet.specs.Waiting.{only_for, new_answer}
 
 -- a list by its entry at a place
@@ -44,25 +44,25 @@ cuts bytes n cut e = ⊎_elim inside past (cases_lt n (length bytes))
         (take_all cut bytes m ∙ sym (take_all n bytes l), drop_all cut bytes m ∙ sym (drop_all n bytes l))
 
 -- the blocks of the first packet, then those of the others
-all_more : (lengths bytes : List ℕ) (d : ℕ) → 0 < length lengths → blocks_of_all lengths bytes ≡ blocks_of (take (get_or lengths 0 d) bytes) ++ blocks_of_all (drop 1 lengths) (drop (get_or lengths 0 d) bytes)
-unfolding blocks_of_all packets_of
+all_more : (lengths bytes : List ℕ) (d : ℕ) → 0 < length lengths → all_packet_blocks lengths bytes ≡ packet_blocks (take (get_or lengths 0 d) bytes) ++ all_packet_blocks (drop 1 lengths) (drop (get_or lengths 0 d) bytes)
+unfolding all_packet_blocks packets_of
 all_more [] bytes d l = absurd (omega arith)
 all_more (n ∷ lengths) bytes d l = refl
 
-pub all_none : (lengths bytes : List ℕ) → length lengths ≡ 0 → blocks_of_all lengths bytes ≡ []
-unfolding blocks_of_all packets_of
+pub all_none : (lengths bytes : List ℕ) → length lengths ≡ 0 → all_packet_blocks lengths bytes ≡ []
+unfolding all_packet_blocks packets_of
 all_none [] bytes e = refl
 all_none (n ∷ lengths) bytes e = absurd (omega arith)
 
 -- a packet opens
 module _ (lengths bytes : List ℕ) (d : ℕ) (l : 0 < length lengths) (packet rest : List ℕ) (p : packet ≡ take (get_or lengths 0 d) bytes) (b : rest ≡ drop (get_or lengths 0 d) bytes) where
-  opened : blocks_of_all lengths bytes ≡ opening ∷ (drop 1 (blocks_of packet) ++ blocks_of_all (drop 1 lengths) rest)
+  opened : all_packet_blocks lengths bytes ≡ opening ∷ (drop 1 (packet_blocks packet) ++ all_packet_blocks (drop 1 lengths) rest)
   opened = all_more lengths bytes d l ∙ rw (sym p, sym b) (rw (blocks_are packet) refl)
 
-  pub opened_first : (r : Option Block) → r ≡ slice_get (blocks_of packet) 0 → r ≡ first_of (blocks_of_all lengths bytes)
+  pub opened_first : (r : Option Block) → r ≡ slice_get (packet_blocks packet) 0 → r ≡ first_of (all_packet_blocks lengths bytes)
   opened_first r e = e ∙ rw (opened, blocks_are packet) refl
 
-  pub opened_rest : drop 1 (blocks_of packet) ++ blocks_of_all (drop 1 lengths) rest ≡ rest_of (blocks_of_all lengths bytes)
+  pub opened_rest : drop 1 (packet_blocks packet) ++ all_packet_blocks (drop 1 lengths) rest ≡ rest_of (all_packet_blocks lengths bytes)
   opened_rest = rw opened refl
 
 -- the lists of an inlet for one client c, asked for that client
@@ -78,5 +78,5 @@ own_taken c d k l rest e f r =
     other j n = rw (f, n) refl
 
 -- a new inlet: the blocks of no packet are given, those of all packets are left
-pub new_made : (c k count : ℕ) (lengths bytes : List ℕ) → k ≡ c → length (blocks_of []) ≡ count → true ≡ are_lengths lengths (length bytes) → Ok (only_for k (drop count (blocks_of []) ++ blocks_of_all lengths bytes)) ≡ new_answer c lengths bytes
-new_made c k count lengths bytes e n t = rw (sym t, e, drop_all count (blocks_of []) (omega arith)) refl
+pub new_made : (c k count : ℕ) (lengths bytes : List ℕ) → k ≡ c → length (packet_blocks []) ≡ count → true ≡ are_lengths lengths (length bytes) → Ok (only_for k (drop count (packet_blocks []) ++ all_packet_blocks lengths bytes)) ≡ new_answer c lengths bytes
+new_made c k count lengths bytes e n t = rw (sym t, e, drop_all count (packet_blocks []) (omega arith)) refl

@@ -5,7 +5,7 @@ use Rattle.block.specs.declared.Block.{Block}
 use Rattle.refusal.specs.declared.Refusal.{Refusal}
 use Rattle.port.specs.Model.{Lists}
 use Rattle.packet.specs.Answers.{over}
-use Rattle.packet.specs.Format.{in_range, blocks_of}
+use Rattle.packet.specs.Format.{is_packet_length, packet_blocks}
 use Rattle.packet_inlet.specs.declared.reader.PacketReader.{PacketReader}
 
 -- the blocks held, in the order in which they were taken
@@ -41,6 +41,6 @@ blocks_used (Err _) = 0
 -- Where a packet's blocks come first, there are places for them, and the output has room, the packet comes back whole.
 abbrev pub ComesBack : List Block → ℕ → List ℕ → Result (ℕ × ℕ) Refusal → List ℕ → Type 0
 ComesBack to_read places before r after =
-    (p : List ℕ) (behind : List Block) → to_read ≡ blocks_of p ++ behind → length (blocks_of p) ≤ places →
-    in_range (length p) ≡ true → length p ≤ length before →
+    (p : List ℕ) (behind : List Block) → to_read ≡ packet_blocks p ++ behind → length (packet_blocks p) ≤ places →
+    is_packet_length (length p) ≡ true → length p ≤ length before →
     (r ≡ Ok (length p, 2 + length p / 8)) × (after ≡ over p before)

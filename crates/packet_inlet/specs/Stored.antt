@@ -5,7 +5,7 @@ use Rattle.block.specs.Fixed.{idle_block}
 use Rattle.refusal.specs.declared.Refusal.{Refusal}
 use Rattle.refusal.specs.declared.Refusal.TheVariants.{NoFreePlace, PacketLength}
 use Rattle.port.specs.Model.{Holding, updated_lists}
-use Rattle.packet.specs.Format.{in_range, blocks_of}
+use Rattle.packet.specs.Format.{is_packet_length, packet_blocks}
 
 -- the places that n blocks take, two at a time
 abbrev pub even_count : ℕ → ℕ
@@ -13,19 +13,19 @@ even_count n = n + n % 2
 
 -- the blocks of a packet, and an idle behind them if they are odd in number
 abbrev pub paired_blocks : List ℕ → List Block
-paired_blocks p = blocks_of p ++ replicate (length (blocks_of p) % 2) idle_block
+paired_blocks p = packet_blocks p ++ replicate (length (packet_blocks p) % 2) idle_block
 
 -- a packet put whole for client c, as so many blocks
 pub record PacketStored (c : ℕ) (p : List ℕ) (blocks : ℕ) (before after : Holding) : Type 0 where
-  pub lawful : in_range (length p) ≡ true
-  pub count : blocks ≡ length (blocks_of p)
+  pub lawful : is_packet_length (length p) ≡ true
+  pub count : blocks ≡ length (packet_blocks p)
   pub appended : after.held ≡ updated_lists before.held c (before.held c ++ paired_blocks p)
   pub places : after.free c + even_count blocks ≡ before.free c
 
 -- a packet refused: its length is out of range, or its places are not free; nothing changes
 pub record PacketRefused (c : ℕ) (p : List ℕ) (cause : Refusal) (before after : Holding) : Type 0 where
-  pub number : cause ≡ if in_range (length p) then NoFreePlace else PacketLength
-  pub full : in_range (length p) ≡ true → before.free c < even_count (length (blocks_of p))
+  pub number : cause ≡ if is_packet_length (length p) then NoFreePlace else PacketLength
+  pub full : is_packet_length (length p) ≡ true → before.free c < even_count (length (packet_blocks p))
   pub same : after ≡ before
 
 -- a put of a packet, by its answer

@@ -4,7 +4,7 @@
 #![tactic(auto)]
 
 ghost use Rattle.std.specs.Prelude.{◌≡◌, [], drop};
-ghost use Rattle.packet.specs.Format.{blocks_of};
+ghost use Rattle.packet.specs.Format.{packet_blocks};
 ghost use Rattle.port.specs.Model.{first_of, rest_of};
 ghost use Rattle.packet_inlet.specs.Packets.{CutWhole, are_lengths};
 ghost use Rattle.packet_inlet.specs.Waiting.{blocks_left, meaning, new_answer, waiting_at};
@@ -73,7 +73,7 @@ impl<'a> PacketInlet<'a> {
 
     // Begins the next packet, if there is one, and gives its start block.
     fn open_next(&mut self) -> Option<Block>
-        requires { drop self.old.place (blocks_of self.old.packet.now) ≡ [] }
+        requires { drop self.old.place (packet_blocks self.old.packet.now) ≡ [] }
         ensures client { self.new.client ≡ self.old.client }
         ensures first { result ≡ first_of (blocks_left self.old) }
         ensures rest { blocks_left self.new ≡ rest_of (blocks_left self.old) }

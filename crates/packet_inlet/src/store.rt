@@ -1,7 +1,7 @@
 //! A packet put into an outlet: pair by pair from an inlet of its own, whole or not at all.
 
 ghost use Rattle.std.specs.Prelude.{◌≡◌, true, [], ◌∷◌, length};
-ghost use Rattle.packet.specs.Format.{in_range};
+ghost use Rattle.packet.specs.Format.{is_packet_length};
 ghost use Rattle.packet_inlet.specs.Stored.{PacketPut};
 
 use crate::PacketInlet;
@@ -19,7 +19,7 @@ fn put_only<'a, O: Outlet>(
     packet: &'a [u8],
 ) -> Result<usize, Refusal>
     requires only { lengths.now ≡ length packet.now ∷ [] }
-    requires lawful { in_range (length packet.now) ≡ true }
+    requires lawful { is_packet_length (length packet.now) ≡ true }
     ensures { PacketPut client packet.now result (O.holding outlet.old) (O.holding outlet.new) }
 {
     let mut inlet = PacketInlet::new(client, lengths, packet)?;

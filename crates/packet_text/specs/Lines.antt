@@ -34,9 +34,9 @@ abbrev pub length_answer : List ℕ → ℕ → Result ℕ Refusal
 length_answer bytes places = if nat_le (length bytes) places then Ok (length bytes) else Err OutputTooShort
 
 -- the reader's answer for an output of so many places
-abbrev pub read_answer : Option (ℕ × List ℕ) → ℕ → Result PacketLine Refusal
-read_answer None places = Err FormBroken
-read_answer (Some line) places =
+abbrev pub line_answer : Option (ℕ × List ℕ) → ℕ → Result PacketLine Refusal
+line_answer None places = Err FormBroken
+line_answer (Some line) places =
     if nat_le (length line.1) places then Ok (record { client = line.0; length = length line.1 }) else Err OutputTooShort
 
 -- Each client below 1,000 and its bytes, written out as a line, are read as just these.

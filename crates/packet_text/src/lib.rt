@@ -7,7 +7,7 @@ ghost use Rattle.std.specs.Prelude.{◌≡◌, true, length};
 ghost use Rattle.form.specs.Reads.{Reads};
 ghost use Rattle.packet.specs.Answers.{leaves};
 ghost use Rattle.packet_text.specs.Hex.{all_hex, hex_bytes, is_hex, is_hex_digit};
-ghost use Rattle.packet_text.specs.Lines.{LinesRead, OnlyLinesRead, line_bytes, line_form, line_parts, length_answer, read_answer};
+ghost use Rattle.packet_text.specs.Lines.{LinesRead, OnlyLinesRead, line_bytes, line_form, line_parts, length_answer, line_answer};
 
 pub use form::cut_line;
 use form::{FormError, line_text, number, word};
@@ -71,7 +71,7 @@ fn read_hex(digits: &[u8], out: &mut [u8]) -> Result<usize, Refusal>
 
 // Reads a line without the laws that `read_line` adds.
 fn read_parts(line: &[u8], out: &mut [u8]) -> Result<PacketLine, Refusal>
-    ensures answer { result ≡ read_answer (line_form line.now) (length out.old) }
+    ensures answer { result ≡ line_answer (line_form line.now) (length out.old) }
     ensures output { out.new ≡ leaves result (line_bytes (line_form line.now)) out.old }
 {
     let (client, digits) = parts(line)?;
@@ -82,7 +82,7 @@ fn read_parts(line: &[u8], out: &mut [u8]) -> Result<PacketLine, Refusal>
 /// Reads a line as a client's packet, whose bytes go to the front of the output.
 #[tactic(auto, using(crate::proofs::Forms::lines_read))]
 pub fn read_line(line: &[u8], out: &mut [u8]) -> Result<PacketLine, Refusal>
-    ensures answer { result ≡ read_answer (line_form line.now) (length out.old) }
+    ensures answer { result ≡ line_answer (line_form line.now) (length out.old) }
     ensures output { out.new ≡ leaves result (line_bytes (line_form line.now)) out.old }
     ensures all { LinesRead }
     ensures only { OnlyLinesRead }

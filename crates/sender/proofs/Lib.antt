@@ -1,4 +1,3 @@
-pub mod Slots
 pub mod SlotsLaid
 pub mod Behind
 pub mod Own

@@ -9,14 +9,14 @@ use Rattle.message.specs.Kinds.{block_count_of}
 use Rattle.message.specs.Values.{filled_values, lawful}
 use Rattle.message.specs.Written.{message_blocks, output_with_message}
 use Rattle.sending.specs.Messages.{cs_block, cv_block}
-use Rattle.sending.proofs.Codes.{length-message}
+use Rattle.message.proofs.Laws.{laws}
 
 -- a block of a message that was written to enough places
 pub written_block : (k : Kind) (vs : List ℕ) (out : List Block) (i : ℕ) (d e : Block) → lawful k vs ≡ true → block_count_of k ≤ length out → i < block_count_of k
     → get_or (output_with_message k vs out) i d ≡ get_or (message_blocks k (filled_values vs)) i e
 written_block k vs out i d e ok room h =
     let blocks : List Block = message_blocks k (filled_values vs) in
-    let long : length blocks ≡ block_count_of k = length-message k vs ok in
+    let long : length blocks ≡ block_count_of k = laws.block_count k vs ok in
     let made : output_with_message k vs out ≡ blocks ++ drop (block_count_of k) out = rw (ok, le-leb (block_count_of k) (length out) room) refl in
     ap (λ (l : List Block). get_or l i d) made
     ∙ get_or_append_left blocks (drop (block_count_of k) out) d i (omega (arith, long))

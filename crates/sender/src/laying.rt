@@ -3,12 +3,12 @@
 ghost use Rattle.std.specs.Prelude.{◌≡◌, [], true};
 ghost use Rattle.calendar.specs.Entries.{entries_of};
 ghost use Rattle.numbers.specs.Entries.{entry_of, is_entry};
-ghost use Rattle.sending.specs.Laid.{block_for, lists_after_frame, lists_after_slot, pair_for, pairs_for};
+ghost use Rattle.sending.specs.Laid.{lawful_pair, lists_after_frame, lists_after_slot, pair_for, pairs_for};
 
 use block::{Block, Pair};
 use calendar::Calendar;
 use numbers::{ClientNumber, SlotNumber};
-use port::Inlet;
+use port::{Inlet, next_pair};
 use under_way::outgoing::Outgoing;
 
 // Fills the slots of the next frame, slot 1 to slot 480.
@@ -25,7 +25,6 @@ pub(crate) fn lay<I: Inlet>(calendar: &Calendar, inlet: &mut I, frame: &mut Outg
 }
 
 // The pair for a slot, by its client: two error blocks for an empty slot, else the client's first two blocks.
-#[tactic(auto, using(crate::proofs::Slots::second_of_two))]
 fn pair_for<I: Inlet>(client: Option<ClientNumber>, inlet: &mut I) -> Pair
     requires { is_entry client ≡ true }
     ensures pair { result ≡ pair_for (entry_of client) (I.waiting inlet.old) }
@@ -37,17 +36,15 @@ fn pair_for<I: Inlet>(client: Option<ClientNumber>, inlet: &mut I) -> Pair
             second: Block::error(),
         };
     };
-    let first = laid(inlet.next(client));
-    let second = laid(inlet.next(client));
-    Pair { first, second }
+    lawful_pair(next_pair(inlet, client, Block::idle()))
 }
 
-// What is laid for an inlet's answer: an idle where no block waits, the error block for an unlawful one.
-fn laid(block: Option<Block>) -> Block
-    ensures { result ≡ block_for block }
+// The pair, with the error block in the place of an unlawful one.
+fn lawful_pair(pair: Pair) -> Pair
+    ensures { result ≡ lawful_pair pair }
 {
-    match block {
-        None => Block::idle(),
-        Some(block) => block.lawful_or_error(),
+    Pair {
+        first: pair.first.lawful_or_error(),
+        second: pair.second.lawful_or_error(),
     }
 }

@@ -7,8 +7,8 @@ use Rattle.block.specs.Fixed.{idle_block}
 use Rattle.refusal.specs.declared.Refusal.{Refusal}
 use Rattle.refusal.specs.declared.Refusal.TheVariants.{PacketLength, OutputTooShort}
 use Rattle.packet.specs.Answers.{leaves, write_answer}
-use Rattle.packet.specs.Format.{blocks_of, in_range}
-use Rattle.packet.proofs.Blocks.{length_blocks_of}
+use Rattle.packet.specs.Format.{packet_blocks, is_packet_length}
+use Rattle.packet.proofs.Blocks.{length_packet_blocks}
 use Rattle.message.specs.declared.Kind.{Kind}
 use Rattle.message.specs.Written.{message_answer, output_with_message}
 use Rattle.value_text.specs.Texts.{block_text}
@@ -22,16 +22,16 @@ chosen false b m n d e h = let z : ◌≡◌ {A = ℕ} 0 1 = cc in absurd (omega
 -- a packet that is written has two blocks at least
 pub two_at_least : (p : List ℕ) (places n : ℕ) → write_answer p places ≡ Ok n → 2 ≤ n
 two_at_least p places n h =
-    let e : n ≡ length (blocks_of p) = chosen (in_range (length p)) (leb (length (blocks_of p)) places) (length (blocks_of p)) n OutputTooShort PacketLength h in
-    let k = length_blocks_of p in
+    let e : n ≡ length (packet_blocks p) = chosen (is_packet_length (length p)) (leb (length (packet_blocks p)) places) (length (packet_blocks p)) n OutputTooShort PacketLength h in
+    let k = length_packet_blocks p in
     omega (arith, e, k)
 
 pub packet_is : (p : List ℕ) (w : Result ℕ Refusal) (n end : ℕ) (out : List Block) (idle : Block)
-    → w ≡ write_answer p 253 → w ≡ Ok n → idle ≡ idle_block → out ≡ leaves w (blocks_of p) (replicate 253 idle) → end ≡ end_type out n
-    → made_text n end ≡ packet_text (write_answer p 253) (leaves (write_answer p 253) (blocks_of p) (idles 253))
+    → w ≡ write_answer p 253 → w ≡ Ok n → idle ≡ idle_block → out ≡ leaves w (packet_blocks p) (replicate 253 idle) → end ≡ end_type out n
+    → made_text n end ≡ packet_text (write_answer p 253) (leaves (write_answer p 253) (packet_blocks p) (idles 253))
 packet_is p w n end out idle h k i o e =
-    let left : List Block = leaves (write_answer p 253) (blocks_of p) (idles 253) in
-    let same : out ≡ left = o ∙ ap₂ (λ (v : Result ℕ Refusal) (b : Block). leaves v (blocks_of p) (replicate 253 b)) h i in
+    let left : List Block = leaves (write_answer p 253) (packet_blocks p) (idles 253) in
+    let same : out ≡ left = o ∙ ap₂ (λ (v : Result ℕ Refusal) (b : Block). leaves v (packet_blocks p) (replicate 253 b)) h i in
     ap (made_text n) (e ∙ ap (λ (bs : List Block). end_type bs n) same)
     ∙ ap (λ (v : Result ℕ Refusal). packet_text v left) (sym k ∙ h)
 

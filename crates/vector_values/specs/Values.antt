@@ -12,7 +12,7 @@ use Rattle.overhead.specs.Laws.{overhead}
 use Rattle.frame.specs.declared.SlotStart.{SlotStart}
 use Rattle.frame.specs.SlotStarts.{slot_start}
 use Rattle.packet.specs.Answers.{leaves, write_answer}
-use Rattle.packet.specs.Format.{blocks_of}
+use Rattle.packet.specs.Format.{packet_blocks}
 use Rattle.message.specs.declared.Kind.{Kind}
 use Rattle.message.specs.Written.{message_answer, output_with_message}
 use Rattle.value_text.specs.Texts.{block_text, hex_of, refused_text}
@@ -70,7 +70,7 @@ packet_text (Err cause) blocks = refused_text cause
 abbrev pub written_packet : List ℕ → List ℕ
 written_packet p =
     let answered : Result ℕ Refusal = write_answer p 253 in
-    packet_text answered (leaves answered (blocks_of p) (idles 253))
+    packet_text answered (leaves answered (packet_blocks p) (idles 253))
 
 -- a writer's answer and output, for the block at a place of a message, counted from 0
 abbrev pub place_text : Result ℕ Refusal → List Block → ℕ → List ℕ

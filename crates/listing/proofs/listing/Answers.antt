@@ -1,4 +1,4 @@
-use Rattle.std.proofs.Common.{◌≡◌, [], sym, ◌∙◌, arith, rules}
+use Rattle.std.proofs.Common.{◌≡◌, [], ◌∙◌, arith, rules}
 use Rattle.std.proofs.lemmas.List.{flat_map_more}
 use Rattle.numbers.specs.Range.{slots}
 use Rattle.numbers.specs.Walk.{numbers_between}

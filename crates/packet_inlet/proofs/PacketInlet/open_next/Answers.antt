@@ -1,8 +1,8 @@
 use Rattle.std.proofs.Common.{◌≡◌, ℕ, ◌≤◌, List, [], ◌++◌, length, get_or, take, drop, sym, refl, ap, ◌∙◌, arith}
 use Rattle.std.proofs.lemmas.List.{take_rest}
 use Rattle.port.specs.Model.{first_of, rest_of}
-use Rattle.packet.specs.Format.{blocks_of}
-use Rattle.packet_inlet.specs.Packets.{blocks_of_all}
+use Rattle.packet.specs.Format.{packet_blocks}
+use Rattle.packet_inlet.specs.Packets.{all_packet_blocks}
 use Rattle.packet_inlet.specs.Waiting.{blocks_left}
 use Rattle.packet_inlet.proofs.Left.{all_none, cuts, opened_first, opened_rest}
 use Rattle.packet_inlet.proofs.PacketInlet.open_next.Goals as goal
@@ -17,7 +17,7 @@ pub returns : goal.returns
 returns c =
     let lengths : List ℕ = c.args.self.now.lengths.now in
     let bytes : List ℕ = c.args.self.now.bytes.now in
-    let left : blocks_left c.args.self.now ≡ blocks_of_all lengths bytes = rw c.requires refl in
+    let left : blocks_left c.args.self.now ≡ all_packet_blocks lengths bytes = rw c.requires refl in
     let some : 1 ≤ length lengths = c.in-len1-up.len_at_least in
     let parts = cuts bytes (get_or lengths 0 0) c.min-cut.result c.min-cut.ensures in
     let packet : c.split_at.result.0.now ≡ take (get_or lengths 0 0) bytes = c.split_at.ensures.front ∙ parts.0 in
@@ -27,5 +27,5 @@ returns c =
     record {
       client = refl;
       first = first ∙ ap first_of (sym left);
-      rest = ap (λ ls. drop 1 (blocks_of c.split_at.result.0.now) ++ blocks_of_all ls c.split_at.result.1.now) (take_rest lengths 1) ∙ behind ∙ ap rest_of (sym left);
+      rest = ap (λ ls. drop 1 (packet_blocks c.split_at.result.0.now) ++ all_packet_blocks ls c.split_at.result.1.now) (take_rest lengths 1) ∙ behind ∙ ap rest_of (sym left);
     }
