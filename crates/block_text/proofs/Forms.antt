@@ -7,8 +7,8 @@ use Rattle.block.specs.declared.Block.{Block}
 use Rattle.block.specs.declared.Sync.{Sync}
 use Rattle.block.specs.declared.Sync.TheVariants.{Zeros, Control, Data, Ones}
 use Rattle.block.specs.Whole.{Bytes, Whole}
-use Rattle.form.specs.Cut.{ended}
-use Rattle.form.specs.Form.{after, bind}
+use Rattle.form.specs.Cut.{ended_text}
+use Rattle.form.specs.Form.{bind, rest_after}
 use Rattle.form.proofs.Cuts.{ended_is, ended_push}
 use Rattle.form.proofs.Numbers.{bind_at, bind_some}
 use Rattle.form.proofs.Words.{after_append, after_is}
@@ -79,26 +79,26 @@ abbrev digits_by : Sync → List ℕ → Option Block
 digits_by s digits = bind (block_bytes digits) λ bytes. Some (record { sync = s; bytes = bytes })
 
 abbrev rest_by : Sync → List ℕ → Option Block
-rest_by s rest = bind (ended rest) (digits_by s)
+rest_by s rest = bind (ended_text rest) (digits_by s)
 
 abbrev sync_by : Sync × List ℕ → Option Block
-sync_by sync = bind (after (codes " ") sync.1) (rest_by sync.0)
+sync_by sync = bind (rest_after (codes " ") sync.1) (rest_by sync.0)
 
 pub blocks_read : BlocksRead
 blocks_read b w =
     let digits = hex_text b.bytes in
     let rest = digits ++ (10 ∷ []) in
     bind_at (leading_sync (block_line b)) sync_by (b.sync, 32 ∷ rest) (sync_reads b.sync (32 ∷ rest))
-    ∙ bind_at (after (codes " ") (32 ∷ rest)) (rest_by b.sync) rest (after_append (codes " ") rest)
-    ∙ bind_at (ended rest) (digits_by b.sync) digits (ended_push digits 10)
+    ∙ bind_at (rest_after (codes " ") (32 ∷ rest)) (rest_by b.sync) rest (after_append (codes " ") rest)
+    ∙ bind_at (ended_text rest) (digits_by b.sync) digits (ended_push digits 10)
     ∙ bind_at (block_bytes digits) (λ bytes. Some (record { sync = b.sync; bytes = bytes })) b.bytes (bytes_read b.bytes w.0 (all_bytes b.bytes w.1))
 
 pub only_blocks_read : OnlyBlocksRead
 only_blocks_read xs b e =
     let s = bind_some (leading_sync xs) sync_by b e in
     let sync : Sync × List ℕ = s.0 in
-    let r = bind_some (after (codes " ") sync.1) (rest_by sync.0) b s.2 in
-    let d = bind_some (ended r.0) (digits_by sync.0) b r.2 in
+    let r = bind_some (rest_after (codes " ") sync.1) (rest_by sync.0) b s.2 in
+    let d = bind_some (ended_text r.0) (digits_by sync.0) b r.2 in
     let y = bind_some (block_bytes d.0) (λ bytes. Some (record { sync = sync.0; bytes = bytes })) b d.2 in
     let is = bytes_are d.0 y.0 y.1 in
     let same : record { sync = sync.0; bytes = y.0 } ≡ b = same_Some _ _ y.2 in

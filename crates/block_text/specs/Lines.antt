@@ -5,8 +5,8 @@ use Rattle.block.specs.declared.Sync.{Sync}
 use Rattle.block.specs.declared.Sync.TheVariants.{Zeros, Control, Data, Ones}
 use Rattle.block.specs.Syncs.{sync_bits}
 use Rattle.block.specs.Whole.{Whole}
-use Rattle.form.specs.Cut.{ended}
-use Rattle.form.specs.Form.{after, bind}
+use Rattle.form.specs.Cut.{ended_text}
+use Rattle.form.specs.Form.{bind, rest_after}
 use Rattle.packet_text.specs.Hex.{hex_bytes, hex_text, is_hex}
 
 -- the two bits as digits
@@ -38,8 +38,8 @@ block_bytes digits = if is_hex digits && (length digits == 16) then Some (hex_by
 abbrev pub block_form : List ℕ → Option Block
 block_form xs =
     bind (leading_sync xs) λ sync.
-    bind (after (codes " ") sync.1) λ rest.
-    bind (ended rest) λ digits.
+    bind (rest_after (codes " ") sync.1) λ rest.
+    bind (ended_text rest) λ digits.
     bind (block_bytes digits) λ bytes.
     Some (record { sync = sync.0; bytes = bytes })
 

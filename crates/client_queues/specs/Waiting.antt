@@ -4,7 +4,7 @@ use Rattle.std.specs.VecDeque.{deque_items}
 use Rattle.std.specs.List.{range_with_len}
 use Rattle.numbers.specs.Range.{slots}
 use Rattle.port.specs.Model.{Lists, updated_lists}
-use Rattle.packet.specs.Format.{blocks_of}
+use Rattle.packet.specs.Format.{packet_blocks}
 use Rattle.client_queues.specs.declared.ClientQueues.{ClientQueues}
 
 -- client k's queue stands at place k - 1; the list in front of them is that of number 0, which is no client's
@@ -17,7 +17,7 @@ none_wait k = []
 
 -- the blocks of a packet behind those that wait for client c
 abbrev pub with_packet : ℕ → List ℕ → Lists → Lists
-with_packet c packet lists = updated_lists lists c (lists c ++ blocks_of packet)
+with_packet c packet lists = updated_lists lists c (lists c ++ packet_blocks packet)
 
 -- how many blocks wait for clients 1 to 480 together
 unfoldable pub blocks_waiting : Lists → ℕ

@@ -2,7 +2,7 @@
 
 ghost use Rattle.std.specs.Prelude.{◌≡◌, ◌==◌, ◌↔◌, false, length, IfOk, OnErr, OnOk, Err};
 ghost use Rattle.port.specs.Model.{first_of, lists_after_next};
-ghost use Rattle.packet.specs.Format.{blocks_of, in_range};
+ghost use Rattle.packet.specs.Format.{is_packet_length, packet_blocks};
 ghost use Rattle.client_queues.specs.Waiting.{blocks_waiting, none_wait, waiting_in, with_packet};
 ghost use Rattle.client_queues.specs.declared.calls.AddError.TheVariants.{PacketLength};
 
@@ -35,8 +35,8 @@ impl From<AllocError> for AddError {
 }
 
 // The blocks of a packet.
-fn blocks_of(alloc: Global, packet: &[u8]) -> Result<VecDeque<Block>, AllocError>
-    ensures { IfOk result (λ blocks. blocks.items ≡ blocks_of packet.now) }
+fn packet_blocks(alloc: Global, packet: &[u8]) -> Result<VecDeque<Block>, AllocError>
+    ensures { IfOk result (λ blocks. blocks.items ≡ packet_blocks packet.now) }
 {
     let mut blocks = VecDeque::with_capacity(alloc, block_count(packet.len()))?;
     while let Some(block) = block_at(packet, blocks.len()) {
@@ -78,12 +78,12 @@ impl ClientQueues {
     pub fn add(&mut self, client: ClientNumber, packet: &[u8]) -> Result<(), AddError>
         ensures ok { OnOk result (waiting_in self.new ≡ with_packet client packet.now (waiting_in self.old)) }
         ensures err { OnErr result (waiting_in self.new ≡ waiting_in self.old) }
-        ensures length { (result ≡ Err PacketLength) ↔ (in_range (length packet.now) ≡ false) }
+        ensures length { (result ≡ Err PacketLength) ↔ (is_packet_length (length packet.now) ≡ false) }
     {
         if !is_packet_length(packet.len()) {
             return Err(AddError::PacketLength);
         }
-        let mut blocks = blocks_of(*self.queues.allocator(), packet)?;
+        let mut blocks = packet_blocks(*self.queues.allocator(), packet)?;
         let total = self.blocks.checked_add(blocks.len()).ok_or(AllocError)?;
         self.queues[client.index()].append(&mut blocks)?;
         self.blocks = total;

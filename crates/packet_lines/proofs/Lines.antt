@@ -2,7 +2,7 @@
 use Rattle.std.proofs.Common.{◌≡◌, ℕ, ◌+◌, ◌<◌, ◌≤◌, Bool, true, false, cond, eqb, List, [], ◌∷◌, ◌++◌, length, take, drop, Some, None, Option, subst, sym, refl, ap, ◌∙◌, arith}
 use Rattle.std.proofs.lemmas.Bool.{eqb-true}
 use Rattle.std.proofs.lemmas.Bool.Decides.{nat_tests}
-use Rattle.form.specs.Cut.{cut_line, longer as cut_longer}
+use Rattle.form.specs.Cut.{cut_line, longer_cut}
 use Rattle.packet_lines.specs.Lines.{longer, text_lines}
 
 pub next_line : (xs : List ℕ) → 0 < length xs → text_lines xs ≡ (cut_line xs).0 ∷ text_lines (cut_line xs).1
@@ -15,7 +15,7 @@ next_line (c ∷ cs) l = go (eqb c 10) cs refl (next_line cs)
 
     go : (t : Bool) (ds : List ℕ) → cs ≡ ds → (0 < length cs → text_lines cs ≡ (cut_line cs).0 ∷ text_lines (cut_line cs).1) →
         cond t ((c ∷ []) ∷ text_lines cs) (longer c (text_lines cs))
-        ≡ (cond t (c ∷ [], cs) (cut_longer c (cut_line cs))).0 ∷ text_lines (cond t (c ∷ [], cs) (cut_longer c (cut_line cs))).1
+        ≡ (cond t (c ∷ [], cs) (longer_cut c (cut_line cs))).0 ∷ text_lines (cond t (c ∷ [], cs) (longer_cut c (cut_line cs))).1
     go true ds e more = refl
     go false ds e more = behind ds e more
 
@@ -29,8 +29,8 @@ cut_long (c ∷ cs) l = go (eqb c 10) cs refl (cut_long cs)
     behind (d ∷ ds) e more = (more (rw e (omega arith))).1
 
     go : (t : Bool) (ds : List ℕ) → cs ≡ ds → (0 < length cs → (0 < length (cut_line cs).0) × (length (cut_line cs).0 + length (cut_line cs).1 ≡ length cs)) →
-        (0 < length (cond t (c ∷ [], cs) (cut_longer c (cut_line cs))).0)
-        × (length (cond t (c ∷ [], cs) (cut_longer c (cut_line cs))).0 + length (cond t (c ∷ [], cs) (cut_longer c (cut_line cs))).1 ≡ length (c ∷ cs))
+        (0 < length (cond t (c ∷ [], cs) (longer_cut c (cut_line cs))).0)
+        × (length (cond t (c ∷ [], cs) (longer_cut c (cut_line cs))).0 + length (cond t (c ∷ [], cs) (longer_cut c (cut_line cs))).1 ≡ length (c ∷ cs))
     go true ds e more = (omega arith, omega arith)
     go false ds e more = (omega arith, omega (arith, behind ds e more))
 

@@ -10,10 +10,10 @@ use Rattle.block.specs.declared.Block.{Block}
 use Rattle.refusal.specs.declared.Refusal.{Refusal}
 use Rattle.refusal.specs.declared.Refusal.TheVariants.{FormBroken, OutputTooShort}
 use Rattle.port.specs.Model.{Lists, updated_lists}
-use Rattle.packet.specs.Format.{blocks_of}
+use Rattle.packet.specs.Format.{packet_blocks}
 use Rattle.packet_text.specs.declared.PacketLine.{PacketLine}
 use Rattle.packet_text.specs.Hex.{hex_text}
-use Rattle.packet_text.specs.Lines.{line_form, line_text, read_answer}
+use Rattle.packet_text.specs.Lines.{line_form, line_text, line_answer}
 use Rattle.packet_text.proofs.Forms.{only_lines_read}
 use Rattle.packet_text.proofs.Hex.{bytes_of_text}
 use Rattle.packet_lines.specs.declared.LineError.{LineError}
@@ -36,26 +36,26 @@ packet_shorter line p e =
     omega (arith, long, rest, whole, hex.1)
 
 -- an output as long as the line is long enough, so only the form is refused
-pub refused_by_form : (entries line : List ℕ) (n : ℕ) (cause : Refusal) → length line ≤ n → Err cause ≡ read_answer (line_form line) n → packet_of entries line ≡ Err (Refused cause)
+pub refused_by_form : (entries line : List ℕ) (n : ℕ) (cause : Refusal) → length line ≤ n → Err cause ≡ line_answer (line_form line) n → packet_of entries line ≡ Err (Refused cause)
 refused_by_form entries line n cause l e = go (line_form line) refl
   where
     go : (o : Option (ℕ × List ℕ)) → line_form line ≡ o → packet_of entries line ≡ Err (Refused cause)
     go None f =
-        let r : Err cause ≡ read_answer None n = e ∙ ap (λ o. read_answer o n) f in
+        let r : Err cause ≡ line_answer None n = e ∙ ap (λ o. line_answer o n) f in
         let same : FormBroken ≡ cause = cc in
         ap (by_form entries) f ∙ ap (λ c. Err (Refused c)) same
     go (Some p) f =
         let fits = le-leb (length p.1) n (omega (arith, packet_shorter line p f, l)) in
         let r : ◌≡◌ {A = Result PacketLine Refusal} (Err cause) (Ok (record { client = p.0; length = length p.1 })) =
-        e ∙ ap (λ o. read_answer o n) f ∙ cond-true (leb (length p.1) n) (Ok (record { client = p.0; length = length p.1 })) (Err OutputTooShort) fits in
+        e ∙ ap (λ o. line_answer o n) f ∙ cond-true (leb (length p.1) n) (Ok (record { client = p.0; length = length p.1 })) (Err OutputTooShort) fits in
         let z : ◌≡◌ {A = ℕ} 0 1 = cc in absurd (omega arith)
 
 -- a packet put behind those of its client is what its line brings
-pub added : (lists : Lists) (c : ℕ) (packet : List ℕ) → updated_lists lists c (lists c ++ blocks_of packet) ≡ joined lists (brought_by (Ok (c, packet)))
+pub added : (lists : Lists) (c : ℕ) (packet : List ℕ) → updated_lists lists c (lists c ++ packet_blocks packet) ≡ joined lists (brought_by (Ok (c, packet)))
 added lists c packet = fun_ext (λ k. go k (eqb k c) refl)
   where
-    go : (k : ℕ) (t : Bool) → eqb k c ≡ t → cond t (lists c ++ blocks_of packet) (lists k) ≡ lists k ++ cond t (blocks_of packet) []
-    go k true e = ap (λ j. lists j ++ blocks_of packet) (sym (eqb-true k c e))
+    go : (k : ℕ) (t : Bool) → eqb k c ≡ t → cond t (lists c ++ packet_blocks packet) (lists k) ≡ lists k ++ cond t (packet_blocks packet) []
+    go k true e = ap (λ j. lists j ++ packet_blocks packet) (sym (eqb-true k c e))
     go k false e = sym (append-nil (lists k))
 
 -- one more line is read

@@ -4,10 +4,10 @@ use Rattle.std.specs.List.{flat_map}
 use Rattle.block.specs.declared.Block.{Block}
 use Rattle.refusal.specs.declared.Refusal.{Refusal}
 use Rattle.refusal.specs.declared.Refusal.TheVariants.{FormBroken, PacketLength}
-use Rattle.numbers.specs.Range.{checked}
+use Rattle.numbers.specs.Range.{checked_number}
 use Rattle.calendar.specs.Share.{slot_count}
 use Rattle.port.specs.Model.{Lists}
-use Rattle.packet.specs.Format.{blocks_of, in_range}
+use Rattle.packet.specs.Format.{packet_blocks, is_packet_length}
 use Rattle.packet_text.specs.Lines.{line_form}
 use Rattle.packet_lines.specs.declared.LineError.{LineError}
 use Rattle.packet_lines.specs.declared.LineError.TheVariants.{NoSlot, Refused}
@@ -19,12 +19,12 @@ use Rattle.packet_lines.specs.declared.ReadError.TheVariants.{Line, Memory}
 abbrev pub by_client : List ℕ → List ℕ → Result ℕ Refusal → Result (ℕ × List ℕ) LineError
 by_client entries bytes (Err cause) = Err (Refused cause)
 by_client entries bytes (Ok client) =
-    if in_range (length bytes) then (if slot_count client entries == 0 then Err (NoSlot client) else Ok (client, bytes))
+    if is_packet_length (length bytes) then (if slot_count client entries == 0 then Err (NoSlot client) else Ok (client, bytes))
     else Err (Refused PacketLength)
 
 abbrev pub by_form : List ℕ → Option (ℕ × List ℕ) → Result (ℕ × List ℕ) LineError
 by_form entries None = Err (Refused FormBroken)
-by_form entries (Some line) = by_client entries line.1 (checked line.0)
+by_form entries (Some line) = by_client entries line.1 (checked_number line.0)
 
 -- the client and the packet of a line, by the calendar's entries, or why the line is not taken
 abbrev pub packet_of : List ℕ → List ℕ → Result (ℕ × List ℕ) LineError
@@ -42,7 +42,7 @@ first_bad entries n (l ∷ ls) = bad_or (packet_of entries l) n (first_bad entri
 -- the blocks that a line brings to client k
 abbrev pub brought_by : Result (ℕ × List ℕ) LineError → Lists
 brought_by (Err error) k = []
-brought_by (Ok packet) k = if k == packet.0 then blocks_of packet.1 else []
+brought_by (Ok packet) k = if k == packet.0 then packet_blocks packet.1 else []
 
 -- the blocks that lines bring to each client, in the order of the lines
 abbrev pub lists_of : List ℕ → List (List ℕ) → Lists
