@@ -11,8 +11,7 @@ use std::collections::VecDeque;
 
 mod calls;
 
-pub use calls::AddError;
-pub use calls::NothingWaits;
+pub use calls::{AddError, NothingWaits};
 
 /// The blocks that wait, a queue for each of the 480 clients.
 #[derive(Drop)]

@@ -30,7 +30,9 @@ fn command<'a>(alloc: Global) -> Result<Command<'a>, AllocError> {
         .help("The file of the lease sheet");
     let frames = Arg::new(alloc, "FRAMES")
         .value_parser(value_parser!(u32).range(1..))
-        .help("How many frames to send; without it, a multiframe with nothing waiting, and then all packets");
+        .help(
+            "How many frames to send; without it, a multiframe with nothing waiting, and then all packets",
+        );
     let progress = Arg::new(alloc, "progress")
         .long("progress")
         .action(ArgAction::SetTrue)
@@ -47,7 +49,10 @@ fn command<'a>(alloc: Global) -> Result<Command<'a>, AllocError> {
 fn parsed<'a>(alloc: Global, words: &'a [String]) -> Result<ArgMatches<'a>, clap::Error> {
     let mut command = command(alloc)?;
     let matches = command.try_get_matches_from_mut(words)?;
-    if matches.get_str("FRAMES").is_some_and(|text| text.starts_with('+')) {
+    if matches
+        .get_str("FRAMES")
+        .is_some_and(|text| text.starts_with('+'))
+    {
         return Err(command.error(ErrorKind::ValueValidation, "FRAMES has a sign")?);
     }
     Ok(matches)
@@ -55,7 +60,9 @@ fn parsed<'a>(alloc: Global, words: &'a [String]) -> Result<ArgMatches<'a>, clap
 
 fn read_sheet<R: Files + AllocGlobal>(rt: &R, path: &str) -> io::Result<Vec<u8>> {
     let mut bytes = Vec::new(rt.alloc());
-    fs::open(rt, path)?.take(SHEET_ROOM).read_to_end(&mut bytes)?;
+    fs::open(rt, path)?
+        .take(SHEET_ROOM)
+        .read_to_end(&mut bytes)?;
     Ok(bytes)
 }
 
@@ -67,7 +74,12 @@ fn tell_refusal(out: &mut impl Write, refusal: SheetRefusal) -> io::Result<()> {
 }
 
 // Writes the line to its last block.
-fn write_line<R: Eprint>(rt: &R, out: &mut impl Write, line: &mut Transmission, told: bool) -> io::Result<()> {
+fn write_line<R: Eprint>(
+    rt: &R,
+    out: &mut impl Write,
+    line: &mut Transmission,
+    told: bool,
+) -> io::Result<()> {
     for _ in 0..u64::MAX {
         let Some(block) = line.next_block() else {
             break;
@@ -92,7 +104,9 @@ fn main(rt: HostRuntime) -> Result<ExitCode> {
         }
     };
     let path = matches.get_str("SHEET").unwrap_or("");
-    let goal = matches.get_one::<u32>("FRAMES").map_or(Goal::AllSent, Goal::Frames);
+    let goal = matches
+        .get_one::<u32>("FRAMES")
+        .map_or(Goal::AllSent, Goal::Frames);
     let told = matches.get_flag("progress");
     let sheet = read_sheet(&rt, path).map_err(|error| anyhow!("{path}: {error}"))?;
     let mut calendar = Calendar::empty();
@@ -101,7 +115,9 @@ fn main(rt: HostRuntime) -> Result<ExitCode> {
         return Ok(ExitCode::FAILURE);
     }
     let mut input = Vec::new(rt.alloc());
-    rt.stdin().read_to_end(&mut input).map_err(|error| anyhow!("standard input: {error}"))?;
+    rt.stdin()
+        .read_to_end(&mut input)
+        .map_err(|error| anyhow!("standard input: {error}"))?;
     let queues = match packet_lines::read(rt.alloc(), &input, &calendar) {
         Ok(queues) => queues,
         Err(error) => {
@@ -111,7 +127,9 @@ fn main(rt: HostRuntime) -> Result<ExitCode> {
     };
     let mut line = Transmission::new(calendar, queues, goal);
     let mut out = BufWriter::new(rt.alloc(), rt.stdout())?;
-    write_line(&rt, &mut out, &mut line, told).map_err(|error| anyhow!("standard output: {error}"))?;
+    write_line(&rt, &mut out, &mut line, told).map_err(|error| anyhow!(
+        "standard output: {error}"
+    ))?;
     if told {
         let report = Report::FramesSent(line.progress().frames);
         eprintln!(rt; "{report}")?;

@@ -3,18 +3,18 @@ use Rattle.std.proofs.Common.{◌≡◌, ℕ, ◌+◌, ◌<◌, ◌≤◌, Bool,
 use Rattle.std.proofs.lemmas.Bool.{eqb-true}
 use Rattle.std.proofs.lemmas.Bool.Decides.{nat_tests}
 use Rattle.form.specs.Cut.{cut_line, longer_cut}
-use Rattle.packet_lines.specs.Lines.{longer, text_lines}
+use Rattle.packet_lines.specs.Lines.{lines_with_byte, text_lines}
 
 pub next_line : (xs : List ℕ) → 0 < length xs → text_lines xs ≡ (cut_line xs).0 ∷ text_lines (cut_line xs).1
 next_line [] l = absurd (omega arith)
 next_line (c ∷ cs) l = go (eqb c 10) cs refl (next_line cs)
   where
-    behind : (ds : List ℕ) → cs ≡ ds → (0 < length cs → text_lines cs ≡ (cut_line cs).0 ∷ text_lines (cut_line cs).1) → longer c (text_lines cs) ≡ (c ∷ (cut_line cs).0) ∷ text_lines (cut_line cs).1
+    behind : (ds : List ℕ) → cs ≡ ds → (0 < length cs → text_lines cs ≡ (cut_line cs).0 ∷ text_lines (cut_line cs).1) → lines_with_byte c (text_lines cs) ≡ (c ∷ (cut_line cs).0) ∷ text_lines (cut_line cs).1
     behind [] e more = rw e refl
-    behind (d ∷ ds) e more = ap (longer c) (more (rw e (omega arith)))
+    behind (d ∷ ds) e more = ap (lines_with_byte c) (more (rw e (omega arith)))
 
     go : (t : Bool) (ds : List ℕ) → cs ≡ ds → (0 < length cs → text_lines cs ≡ (cut_line cs).0 ∷ text_lines (cut_line cs).1) →
-        cond t ((c ∷ []) ∷ text_lines cs) (longer c (text_lines cs))
+        cond t ((c ∷ []) ∷ text_lines cs) (lines_with_byte c (text_lines cs))
         ≡ (cond t (c ∷ [], cs) (longer_cut c (cut_line cs))).0 ∷ text_lines (cond t (c ∷ [], cs) (longer_cut c (cut_line cs))).1
     go true ds e more = refl
     go false ds e more = behind ds e more

@@ -22,7 +22,7 @@ use Rattle.packet_lines.specs.declared.BadLine.{BadLine}
 use Rattle.packet_lines.specs.declared.ReadError.{ReadError}
 use Rattle.packet_lines.specs.declared.ReadError.TheVariants.{Line, Memory}
 use Rattle.packet_lines.specs.Lines.{text_lines}
-use Rattle.packet_lines.specs.Reading.{IsReason, bad_or, brought_by, by_form, first_bad, joined, lists_of, packet_of}
+use Rattle.packet_lines.specs.Reading.{IsReason, bad_or, blocks_brought, by_form, first_bad, joined_lists, lists_of, packet_of}
 use Rattle.packet_lines.proofs.Lines.{next_line}
 
 -- a line is longer than its packet
@@ -51,7 +51,7 @@ refused_by_form entries line n cause l e = go (line_form line) refl
         let z : ◌≡◌ {A = ℕ} 0 1 = cc in absurd (omega arith)
 
 -- a packet put behind those of its client is what its line brings
-pub added : (lists : Lists) (c : ℕ) (packet : List ℕ) → updated_lists lists c (lists c ++ packet_blocks packet) ≡ joined lists (brought_by (Ok (c, packet)))
+pub added : (lists : Lists) (c : ℕ) (packet : List ℕ) → updated_lists lists c (lists c ++ packet_blocks packet) ≡ joined_lists lists (blocks_brought (Ok (c, packet)))
 added lists c packet = fun_ext (λ k. go k (eqb k c) refl)
   where
     go : (k : ℕ) (t : Bool) → eqb k c ≡ t → cond t (lists c ++ packet_blocks packet) (lists k) ≡ lists k ++ cond t (packet_blocks packet) []
@@ -77,13 +77,13 @@ module _ (entries rest line behind : List ℕ) (n : ℕ) (first : text_lines res
       go (Err error) f = f
 
   -- what waits and what the lines bring
-  pub lists_behind : (lists : Lists) → joined (joined lists (brought_by (packet_of entries line))) (lists_of entries (text_lines behind)) ≡ joined lists (lists_of entries (text_lines rest))
+  pub lists_behind : (lists : Lists) → joined_lists (joined_lists lists (blocks_brought (packet_of entries line))) (lists_of entries (text_lines behind)) ≡ joined_lists lists (lists_of entries (text_lines rest))
   lists_behind lists =
-      fun_ext (λ k. sym (ap (λ ls. lists k ++ lists_of entries ls k) first ∙ ap (λ l. lists k ++ l) (flat_map-cons (λ l. brought_by (packet_of entries l) k) line (text_lines behind))
-      ∙ sym (append_assoc (lists k) (brought_by (packet_of entries line) k) (lists_of entries (text_lines behind) k))))
+      fun_ext (λ k. sym (ap (λ ls. lists k ++ lists_of entries ls k) first ∙ ap (λ l. lists k ++ l) (flat_map-cons (λ l. blocks_brought (packet_of entries l) k) line (text_lines behind))
+      ∙ sym (append_assoc (lists k) (blocks_brought (packet_of entries line) k) (lists_of entries (text_lines behind) k))))
 
 -- nothing is left
-pub lists_end : (entries rest : List ℕ) (lists : Lists) → length rest ≡ 0 → joined lists (lists_of entries (text_lines rest)) ≡ lists
+pub lists_end : (entries rest : List ℕ) (lists : Lists) → length rest ≡ 0 → joined_lists lists (lists_of entries (text_lines rest)) ≡ lists
 lists_end entries rest lists e = rw (nil_from_length rest e) (fun_ext (λ k. append-nil (lists k)))
 
 -- why reading ends at a line

@@ -40,17 +40,17 @@ first_bad entries n [] = None
 first_bad entries n (l ∷ ls) = bad_or (packet_of entries l) n (first_bad entries (n + 1) ls)
 
 -- the blocks that a line brings to client k
-abbrev pub brought_by : Result (ℕ × List ℕ) LineError → Lists
-brought_by (Err error) k = []
-brought_by (Ok packet) k = if k == packet.0 then packet_blocks packet.1 else []
+abbrev pub blocks_brought : Result (ℕ × List ℕ) LineError → Lists
+blocks_brought (Err error) k = []
+blocks_brought (Ok packet) k = if k == packet.0 then packet_blocks packet.1 else []
 
 -- the blocks that lines bring to each client, in the order of the lines
 abbrev pub lists_of : List ℕ → List (List ℕ) → Lists
-lists_of entries ls k = flat_map (λ l. brought_by (packet_of entries l) k) ls
+lists_of entries ls k = flat_map (λ l. blocks_brought (packet_of entries l) k) ls
 
 -- these lists with more blocks behind each
-abbrev pub joined : Lists → Lists → Lists
-joined lists more k = lists k ++ more k
+abbrev pub joined_lists : Lists → Lists → Lists
+joined_lists lists more k = lists k ++ more k
 
 -- why reading ends: for the line that is not taken, or since there is no memory
 abbrev pub IsReason : Option BadLine → ReadError → Type 0

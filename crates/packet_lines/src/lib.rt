@@ -9,7 +9,7 @@ ghost use Rattle.calendar.specs.Entries.{entries_of};
 ghost use Rattle.client_queues.specs.Waiting.{waiting_in};
 ghost use Rattle.packet_lines.specs.Lines.{text_lines};
 ghost use Rattle.packet_lines.specs.Texts.{bad_text, error_text};
-ghost use Rattle.packet_lines.specs.Reading.{IsReason, bad_or, brought_by, first_bad, joined, lists_of, packet_of};
+ghost use Rattle.packet_lines.specs.Reading.{IsReason, bad_or, blocks_brought, first_bad, joined_lists, lists_of, packet_of};
 
 use calendar::Calendar;
 use client_queues::{AddError, ClientQueues};
@@ -125,7 +125,7 @@ fn add_line(
     alloc: Global,
 ) -> Result<(), ReadError>
     ensures taken { OnOk result (bad_or (packet_of (entries_of calendar.now) line.now) number None ≡ None) }
-    ensures lists { OnOk result (waiting_in queues.new ≡ joined (waiting_in queues.old) (brought_by (packet_of (entries_of calendar.now) line.now))) }
+    ensures lists { OnOk result (waiting_in queues.new ≡ joined_lists (waiting_in queues.old) (blocks_brought (packet_of (entries_of calendar.now) line.now))) }
     ensures error { IfErr result (IsReason (bad_or (packet_of (entries_of calendar.now) line.now) number None)) }
 {
     let mut bytes = vec![in alloc; 0; line.len()]?;

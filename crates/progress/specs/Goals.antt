@@ -12,8 +12,8 @@ is_none (Frames n) = n == 0
 is_none AllSent = false
 
 -- nothing is sent yet
-abbrev pub begun : Goal → Progress
-begun goal = record { goal = goal; frames = 0; over = is_none goal }
+abbrev pub new_progress : Goal → Progress
+new_progress goal = record { goal = goal; frames = 0; over = is_none goal }
 
 -- the multiframe by which the far end learns the calendar is not yet sent
 abbrev pub is_learning_at : Goal → ℕ → Bool
@@ -33,8 +33,8 @@ abbrev pub one_more : ℕ → ℕ
 one_more frames = min (frames + 1) (2 ^ 64 - 1)
 
 -- after a block that was sent
-abbrev pub counted : Progress → Block → Bool → Progress
-counted p block none_waits =
+abbrev pub progress_after : Progress → Block → Bool → Progress
+progress_after p block none_waits =
     if is_end (class_of block)
     then record { goal = p.goal; frames = one_more p.frames; over = is_last p.goal (one_more p.frames) none_waits }
     else p

@@ -4,7 +4,7 @@
 #![tactic(auto)]
 
 ghost use Rattle.std.specs.Prelude.{◌≡◌, Some};
-ghost use Rattle.progress.specs.Goals.{begun, counted, is_last, is_learning, is_none};
+ghost use Rattle.progress.specs.Goals.{new_progress, progress_after, is_last, is_learning, is_none};
 ghost use Rattle.progress.specs.Laws.{CountLaws};
 ghost use Rattle.progress.specs.Reports.{report_text};
 
@@ -44,7 +44,7 @@ fn is_none(goal: Goal) -> bool
 impl Progress {
     /// Nothing is sent yet.
     pub fn new(goal: Goal) -> Progress
-        ensures { result ≡ begun goal }
+        ensures { result ≡ new_progress goal }
     {
         Progress {
             goal,
@@ -75,7 +75,7 @@ impl Progress {
 
     /// Counts a block that was sent; `none_waits` says whether no packet waits behind it.
     pub fn count(&mut self, block: &Block, none_waits: bool)
-        ensures { self.new ≡ counted self.old block.now none_waits }
+        ensures { self.new ≡ progress_after self.old block.now none_waits }
     {
         if block.is_end() {
             self.frames = self.frames.saturating_add(1);

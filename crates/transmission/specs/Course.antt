@@ -4,7 +4,7 @@ use Rattle.block.specs.declared.Block.{Block}
 use Rattle.port.specs.Model.{Lists}
 use Rattle.client_queues.specs.Waiting.{blocks_waiting, none_wait, waiting_in}
 use Rattle.progress.specs.declared.Progress.{Progress}
-use Rattle.progress.specs.Goals.{counted, is_learning}
+use Rattle.progress.specs.Goals.{progress_after, is_learning}
 use Rattle.sending.specs.Sender.{SendResult, Sender, send_of, with_state}
 use Rattle.transmission.specs.declared.Transmission.{Transmission}
 
@@ -30,7 +30,7 @@ abbrev pub course_after : Course → SendResult → Course
 course_after c sent = record {
   sender = with_state c.sender sent.state;
   waiting = lists_behind c sent;
-  progress = counted c.progress sent.block (blocks_waiting (lists_behind c sent) == 0);
+  progress = progress_after c.progress sent.block (blocks_waiting (lists_behind c sent) == 0);
 }
 
 -- the next block, none where sending is over

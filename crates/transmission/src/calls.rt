@@ -3,7 +3,7 @@
 ghost use Rattle.std.specs.Prelude.{◌≡◌, replicate};
 ghost use Rattle.calendar.specs.Entries.{entries_of};
 ghost use Rattle.client_queues.specs.Waiting.{blocks_waiting, waiting_in};
-ghost use Rattle.progress.specs.Goals.{begun};
+ghost use Rattle.progress.specs.Goals.{new_progress};
 ghost use Rattle.sending.specs.Sender.{new_sender, send_of, with_state};
 ghost use Rattle.transmission.specs.Course.{course_after, course_of, lists_behind, lists_offered, next_answer, next_course};
 
@@ -17,7 +17,7 @@ use sender::Sender;
 impl Transmission {
     /// Nothing is sent yet; the sender is made from the calendar and zero trail bytes, and these packets' blocks wait.
     pub fn new(calendar: Calendar, queues: ClientQueues, goal: Goal) -> Transmission
-        ensures { course_of result ≡ record { sender = new_sender (entries_of calendar) (replicate 32 0); waiting = waiting_in queues; progress = begun goal } }
+        ensures { course_of result ≡ record { sender = new_sender (entries_of calendar) (replicate 32 0); waiting = waiting_in queues; progress = new_progress goal } }
     {
         Transmission {
             sender: Sender::new(calendar, [0; 32]),

@@ -4,7 +4,7 @@ use Rattle.std.proofs.lemmas.Result.{err_from_is_err_and}
 use Rattle.calendar.specs.Entries.{entries_of}
 use Rattle.client_queues.specs.Waiting.{waiting_in}
 use Rattle.packet_lines.specs.Lines.{text_lines}
-use Rattle.packet_lines.specs.Reading.{IsReason, joined, lists_of}
+use Rattle.packet_lines.specs.Reading.{IsReason, joined_lists, lists_of}
 use Rattle.packet_lines.proofs.Lines.{long_is, next_is, none_left, some_left}
 use Rattle.packet_lines.proofs.Reading.{bad_behind, lists_behind, lists_end, reason_here}
 use Rattle.packet_lines.proofs.read.Goals as goal
@@ -12,7 +12,7 @@ use Rattle.packet_lines.proofs.read.Goals as goal
 pub loop-rest-init : goal.loop-rest-init
 loop-rest-init c =
     record {
-      lists = ap (λ w. joined w (lists_of (entries_of c.args.calendar.now) (text_lines c.args.text.now))) c.in_ok-queues.ensures;
+      lists = ap (λ w. joined_lists w (lists_of (entries_of c.args.calendar.now) (text_lines c.args.text.now))) c.in_ok-queues.ensures;
       bad = refl;
       short = omega arith;
     }
@@ -43,7 +43,7 @@ loop-rest-preserved c =
     let long = long_is rest c.cut_line.result.0.now c.cut_line.result.1.now c.cut_line.ensures left in
     record {
       lists =
-          ap (λ w. joined w (lists_of es (text_lines c.cut_line.result.1.now))) c.in_ok-add_line.ensures.lists
+          ap (λ w. joined_lists w (lists_of es (text_lines c.cut_line.result.1.now))) c.in_ok-add_line.ensures.lists
           ∙ lists_behind es rest c.cut_line.result.0.now c.cut_line.result.1.now (c.loop-rest.number + 1) first (waiting_in c.loop-rest.queues)
           ∙ c.loop-rest.invariant.lists;
       bad =
