@@ -7,7 +7,7 @@
 use anyhow::{Result, anyhow};
 use calendar::Calendar;
 use clap::error::ErrorKind;
-use clap::{Arg, ArgAction, ArgMatches, Command, value_parser};
+use clap::{Arg, ArgAction, Command, value_parser};
 use listing::REFUSAL_LEN;
 use progress::{Goal, Report};
 use refusal::SheetRefusal;
@@ -45,17 +45,29 @@ fn command<'a>(alloc: Global) -> Result<Command<'a>, AllocError> {
         .arg(progress)
 }
 
-// What the command line asks for; a number with a sign is wrong use too.
-fn parsed<'a>(alloc: Global, words: &'a [String]) -> Result<ArgMatches<'a>, clap::Error> {
+// What the command line asks for.
+#[derive(Clone, Copy)]
+struct Options<'a> {
+    sheet: &'a str,
+    goal: Goal,
+    told: bool,
+}
+
+// The options that the words give; a number of frames with a sign is wrong use too.
+fn parse<'a>(alloc: Global, words: &'a [String]) -> Result<Options<'a>, clap::Error> {
     let mut command = command(alloc)?;
     let matches = command.try_get_matches_from_mut(words)?;
-    if matches
-        .get_str("FRAMES")
-        .is_some_and(|text| text.starts_with('+'))
-    {
+    let frames = matches.get_str("FRAMES");
+    if frames.is_some_and(|text| text.starts_with('+')) {
         return Err(command.error(ErrorKind::ValueValidation, "FRAMES has a sign")?);
     }
-    Ok(matches)
+    Ok(Options {
+        sheet: matches.get_str("SHEET").unwrap_or(""),
+        goal: matches
+            .get_one::<u32>("FRAMES")
+            .map_or(Goal::AllSent, Goal::Frames),
+        told: matches.get_flag("progress"),
+    })
 }
 
 fn read_sheet<R: Files + AllocGlobal>(rt: &R, path: &str) -> io::Result<Vec<u8>> {
@@ -66,20 +78,30 @@ fn read_sheet<R: Files + AllocGlobal>(rt: &R, path: &str) -> io::Result<Vec<u8>>
     Ok(bytes)
 }
 
+fn read_packets<R: Input + AllocGlobal>(rt: &R) -> io::Result<Vec<u8>> {
+    let mut bytes = Vec::new(rt.alloc());
+    rt.reader().read_to_end(&mut bytes)?;
+    Ok(bytes)
+}
+
 // Tells a refused sheet as `slots` does.
-fn tell_refusal(out: &mut impl Write, refusal: SheetRefusal) -> io::Result<()> {
+fn tell_refusal(rt: &impl Print, refusal: SheetRefusal) -> io::Result<()> {
     let mut text = [0; REFUSAL_LEN];
     let len = listing::refusal_line(refusal.cause, refusal.line, &mut text);
-    out.write_all(&text[..len])
+    io::writer(rt).write_all(&text[..len])
+}
+
+fn tell(rt: &impl Eprint, report: Report) -> io::Result<()> {
+    eprintln!(rt; "{report}")
 }
 
 // Writes the line to its last block.
-fn write_line<R: Eprint>(
+fn write_line<R: Print + Eprint + AllocGlobal>(
     rt: &R,
-    out: &mut impl Write,
     line: &mut Transmission,
     told: bool,
 ) -> io::Result<()> {
+    let mut out = BufWriter::new(rt.alloc(), io::writer(rt))?;
     for _ in 0..u64::MAX {
         let Some(block) = line.next_block() else {
             break;
@@ -87,37 +109,19 @@ fn write_line<R: Eprint>(
         out.write_all(&block_text::write(block))?;
         let frames = line.progress().frames;
         if told && block.is_end() && frames % TOLD_AFTER == 0 {
-            let report = Report::FramesSent(frames);
-            eprintln!(rt; "{report}")?;
+            tell(rt, Report::FramesSent(frames))?;
         }
     }
     out.flush()
 }
 
-fn main(rt: HostRuntime) -> Result<ExitCode> {
-    let words: Vec<String> = std::env::args(&rt)?.collect(rt.alloc())?;
-    let matches = match parsed(rt.alloc(), words.as_slice()) {
-        Ok(matches) => matches,
-        Err(error) => {
-            error.print(&rt)?;
-            return Ok(ExitCode::from(error.exit_code() as u8));
-        }
-    };
-    let path = matches.get_str("SHEET").unwrap_or("");
-    let goal = matches
-        .get_one::<u32>("FRAMES")
-        .map_or(Goal::AllSent, Goal::Frames);
-    let told = matches.get_flag("progress");
-    let sheet = read_sheet(&rt, path).map_err(|error| anyhow!("{path}: {error}"))?;
-    let mut calendar = Calendar::empty();
-    if let Err(refusal) = sheet::read(&sheet, &mut calendar) {
-        tell_refusal(&mut rt.stdout(), refusal)?;
-        return Ok(ExitCode::FAILURE);
-    }
-    let mut input = Vec::new(rt.alloc());
-    rt.stdin()
-        .read_to_end(&mut input)
-        .map_err(|error| anyhow!("standard input: {error}"))?;
+// Sends the packets of the input over a path with this calendar.
+fn send<R: Input + Print + Eprint + AllocGlobal>(
+    rt: &R,
+    calendar: Calendar,
+    options: Options<'_>,
+) -> Result<ExitCode> {
+    let input = read_packets(rt).map_err(|error| anyhow!("standard input: {error}"))?;
     let queues = match packet_lines::read(rt.alloc(), &input, &calendar) {
         Ok(queues) => queues,
         Err(error) => {
@@ -125,18 +129,40 @@ fn main(rt: HostRuntime) -> Result<ExitCode> {
             return Ok(ExitCode::FAILURE);
         }
     };
-    let mut line = Transmission::new(calendar, queues, goal);
-    let mut out = BufWriter::new(rt.alloc(), rt.stdout())?;
-    write_line(&rt, &mut out, &mut line, told).map_err(|error| anyhow!(
-        "standard output: {error}"
-    ))?;
-    if told {
-        let report = Report::FramesSent(line.progress().frames);
-        eprintln!(rt; "{report}")?;
+    let mut line = Transmission::new(calendar, queues, options.goal);
+    write_line(rt, &mut line, options.told).map_err(|error| anyhow!("standard output: {error}"))?;
+    if options.told {
+        tell(rt, Report::FramesSent(line.progress().frames))?;
     }
-    if matches!(goal, Goal::Frames(_)) {
-        let report = Report::BlocksUnsent(line.unsent());
-        eprintln!(rt; "{report}")?;
+    if matches!(options.goal, Goal::Frames(_)) {
+        tell(rt, Report::BlocksUnsent(line.unsent()))?;
     }
     Ok(ExitCode::SUCCESS)
+}
+
+fn run<R: Files + Input + Print + Eprint + AllocGlobal>(
+    rt: &R,
+    options: Options<'_>,
+) -> Result<ExitCode> {
+    let path = options.sheet;
+    let sheet = read_sheet(rt, path).map_err(|error| anyhow!("{path}: {error}"))?;
+    let mut calendar = Calendar::empty();
+    match sheet::read(&sheet, &mut calendar) {
+        Ok(()) => send(rt, calendar, options),
+        Err(refusal) => {
+            tell_refusal(rt, refusal)?;
+            Ok(ExitCode::FAILURE)
+        }
+    }
+}
+
+fn main(rt: HostRuntime) -> Result<ExitCode> {
+    let words: Vec<String> = std::env::args(&rt)?.collect(rt.alloc())?;
+    match parse(rt.alloc(), words.as_slice()) {
+        Ok(options) => run(&rt, options),
+        Err(error) => {
+            error.print(&rt)?;
+            Ok(ExitCode::from(error.exit_code() as u8))
+        }
+    }
 }
