@@ -1,5 +1,6 @@
 -- The response to a question of two-way delay.
-use Rattle.std.specs.Prelude.{◌≡◌, ℕ, Bool, true, List, [], ◌∷◌, ◌++◌, length}
+use Rattle.std.specs.Prelude.{◌≡◌, ℕ, Bool, true, List, [], ◌∷◌, ◌++◌, length, Ok, Err, Result}
+use Rattle.refusal.specs.declared.Refusal.{Refusal}
 use Rattle.message.specs.declared.Kind.TheVariants.{TwoDmr}
 use Rattle.message.specs.Values.{lawful}
 
@@ -16,3 +17,8 @@ reply_values asked received sent = asked ++ (received ++ (sent ++ 0 ∷ 0 ∷ []
 abbrev pub RepliesLawful : Type 0
 RepliesLawful = (asked received sent : List ℕ) → length asked ≡ 8 → length received ≡ 8 → length sent ≡ 8
     → lawful TwoDmr (reply_values asked received sent) ≡ true
+
+-- the answer, without the question that a refusal gives back
+abbrev pub reply_answer : Result (Unit {0}) (Refusal × AskedQuestion) → Result (Unit {0}) Refusal
+reply_answer (Ok u) = Ok u
+reply_answer (Err e) = Err e.0

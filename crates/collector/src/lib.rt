@@ -17,7 +17,8 @@ mod question;
 pub use assembly::Message;
 use assembly::{Outcome, Unfinished};
 use message::{Kind, MessageBlock};
-pub use question::{Answers, Question};
+pub use question::Question;
+use question::Single;
 use std::fmt;
 use std::marker::Model;
 
@@ -66,6 +67,7 @@ pub struct Report {
 /// It cannot be copied, so that no question is handed out twice.
 #[derive(Drop)]
 pub struct Collector {
+    single: Single,
     aps: Option<Unfinished>,
     low: Option<Unfinished>,
     kept: [Option<Message>; 7],
@@ -147,6 +149,7 @@ impl Collector {
         ensures latest { LatestLaws }
     {
         Collector {
+            single: Single,
             aps: None,
             low: None,
             kept: [None; 7],

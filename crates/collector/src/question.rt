@@ -1,14 +1,22 @@
 //! A question of two-way delay that a collector has handed out.
 //! It can be neither dropped unsettled nor used twice: a value of this type has to be answered or declined, for it is dropped only once it is settled.
-ghost use Rattle.std.specs.Prelude.{◌≡◌, ℕ, List, Ok, Err, IfErr, IsFalse, IsTrue, OnOk, Result, length};
-ghost use Rattle.refusal.specs.declared.Refusal.{Refusal as Cause};
-ghost use Rattle.collector.specs.Reply.{RepliesLawful, reply_values};
+ghost use Rattle.std.specs.Prelude.{◌≡◌, IfErr, IsFalse, IsTrue, Some, length};
+ghost use Rattle.message.specs.declared.Kind.TheVariants.{TwoDmr};
+ghost use Rattle.waiting.specs.Left.{left_after_leave, left_answer};
+ghost use Rattle.collector.specs.Reply.{RepliesLawful, reply_answer, reply_values};
 
+use message::Kind;
 use refusal::Refusal;
 use std::marker::Model;
+use waiting::LeftMessages;
+
+// Neither `Clone` nor `Copy`, so that a derive of either on what holds it does not compile: no contract would refuse the derive.
+#[derive(Drop)]
+pub(crate) struct Single;
 
 /// A question, and whether it has been answered or declined. Only a collector makes one, and none can be copied.
 pub struct Question {
+    single: Single,
     // when it was sent
     time: [u8; 8],
     // a flag, so that `drop` can require it: with no `Drop` only the compiler refuses a question that is dropped, and no contract says so
@@ -28,20 +36,11 @@ impl Drop for Question {
         requires { IsTrue self.settled }
     {
         let Question {
+            single: _,
             time: _,
             settled: _,
         } = self;
     }
-}
-
-/// Where an answer is left.
-pub trait Answers {
-    // what leaving these value bytes of a response does, and what is answered
-    ghost left: { Self → List ℕ → Result (Unit {0}) Cause → Self → Type 0 };
-
-    /// Leaves the 26 value bytes of a response, or refuses them.
-    fn leave(&mut self, values: &[u8; 26]) -> Result<(), Refusal>
-        ensures { left self.old values.now result self.new };
 }
 
 impl Question {
@@ -51,6 +50,7 @@ impl Question {
         ensures open { IsFalse result.settled }
     {
         Question {
+            single: Single,
             time,
             settled: false,
         }
@@ -69,21 +69,32 @@ impl Question {
         self.settle();
     }
 
-    /// Leaves the response, with the time at which the question was received and that at which the response is sent.
-    /// The question is spent if the response is taken; a refusal gives it back.
-    pub fn answer<S: Answers>(
+    /// When it was sent, as the question says.
+    pub fn time(&self) -> [u8; 8]
+        ensures value { result ≡ self.now.time }
+        ensures long { length result ≡ 8 }
+    {
+        self.time
+    }
+
+    #[tactic(auto, using(crate::proofs::Replies::replies_lawful))]
+    /// Leaves the response among a sender's messages, with the time at which the question was received and that at which the response is sent.
+    /// The question is spent if the response is taken. It is refused where a delay message waits (9): then the question comes back, and what
+    /// waits is as before.
+    pub fn answer(
         self,
         received: [u8; 8],
         sent: [u8; 8],
-        sender: &mut S,
+        messages: &mut LeftMessages,
     ) -> Result<(), (Refusal, Question)>
-        ensures taken { OnOk result (S.left sender.old (reply_values self.time received sent) (Ok tt) sender.new) }
-        ensures refused { IfErr result (λ e. S.left sender.old (reply_values self.time received sent) (Err e.0) sender.new) }
+        ensures answer { reply_answer result ≡ left_answer messages.old (Some TwoDmr) (reply_values self.time received sent) }
+        ensures left { messages.new ≡ left_after_leave messages.old (Some TwoDmr) (reply_values self.time received sent) }
         ensures back { IfErr result (λ e. e.1 ≡ self) }
         ensures long { length self.time ≡ 8 }
         ensures lawful { RepliesLawful }
     {
-        match sender.leave(&reply_values(&self.time, &received, &sent)) {
+        let values = reply_values(&self.time, &received, &sent);
+        match messages.leave(Kind::TwoDmr, &values) {
             Ok(()) => {
                 self.decline();
                 Ok(())

@@ -3,3 +3,4 @@ pub mod Pairs
 pub mod ReadBacks
 pub mod Writes
 pub mod Laws
+pub mod Told

@@ -4,7 +4,7 @@
 --   2, 3    values
 --   4       0C: the low half is the ordered set's code, and C is that of path messages
 --   5 to 7  zeros
-use Rattle.std.specs.Prelude.{ℕ, ◌+◌, ◌*◌, ◌/◌, ◌%◌, Bool, if◌then◌else◌, ◌&&◌, List, [], ◌∷◌, Some, None, Option, ◌==◌, slice_index, slice_index_or}
+use Rattle.std.specs.Prelude.{◌≡◌, ◌↔◌, ℕ, ◌+◌, ◌*◌, ◌/◌, ◌%◌, Bool, if◌then◌else◌, ◌&&◌, List, [], ◌∷◌, Some, None, IsSome, Option, ◌==◌, slice_index, slice_index_or}
 use Rattle.block.specs.declared.Block.{Block}
 use Rattle.block.specs.declared.Sync.TheVariants.{Zeros, Control, Data, Ones}
 use Rattle.message.specs.declared.Kind.{Kind}
@@ -43,3 +43,7 @@ read_of b = elim b.sync [ Zeros ↦ None | Control ↦ message_in_bytes b.bytes 
 -- what a message block of a known kind is to say
 abbrev pub message_block_of : Kind → Bool → Bool → ℕ → ℕ → MessageBlock
 message_block_of k s e a b = record { kind = Some k; starts = s; ends = e; first = a; second = b }
+
+-- a block is a message block exactly if it is a control block of type 4B with C in the low half of byte 4
+abbrev pub MessageBlocksTold : Type 0
+MessageBlocksTold = (b : Block) → IsSome (read_of b) ↔ ((b.sync ≡ Control) × (slice_index b.bytes 0 ≡ 0x4B) × (slice_index b.bytes 4 % 16 ≡ 0x0C))

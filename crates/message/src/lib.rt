@@ -4,7 +4,7 @@
 #![tactic(auto)]
 
 ghost use Rattle.std.specs.Prelude.{◌≡◌, ◌-◌, ◌<◌, ◌≤◌, true, Some, ◌++◌, length, take, drop, slice_index};
-ghost use Rattle.message.specs.Blocks.{message_block, read_of};
+ghost use Rattle.message.specs.Blocks.{MessageBlocksTold, message_block, read_of};
 ghost use Rattle.message.specs.Kinds.{block_count_of, code_of, kind_or_unknown, kind_of, name_of};
 ghost use Rattle.message.specs.Values.{filled_values, lawful};
 ghost use Rattle.message.specs.Written.{message_answer, message_answer_for, basic_block, message_blocks, output_with_message, output_with_message_for, MessageLaws};
@@ -161,6 +161,12 @@ pub fn read(block: &Block) -> Option<MessageBlock>
         _ => None,
     }
 }
+
+/// A block is a message block exactly if it is a control block of type 4B with C in the low half of byte 4.
+#[tactic(auto, using(crate::proofs::Told::told))]
+pub fn message_blocks_are_told()
+    ensures { MessageBlocksTold }
+{}
 
 // One block of a message. It takes five values, since a `MessageBlock` may be of an unknown kind and this one is not.
 fn message_block(kind: Kind, starts: bool, ends: bool, first: u8, second: u8) -> Block

@@ -1,16 +1,16 @@
-//! Writes a path message of each kind, gives its blocks to a collector, whole, damaged and woven into one another, and answers a question.
+//! Writes a path message of each kind, gives its blocks to a collector, whole, damaged and woven into one another, and answers a question:
+//! a sender sends the response, and its blocks go to the collector too.
 //! It prints each block with what is reported of it: the faults P1 to P3 in their order, and the kind of a message that it makes whole.
-//! Main promise: none of its own; the work is that of the crates `message` and `collector`.
+//! Main promise: none of its own; the work is that of the crates `message`, `collector` and `sender`.
 #![tactic(auto)]
 
-ghost use Rattle.std.specs.Prelude.{◌≡◌, true, is_some, Some, None, MatchResult};
-ghost use Rattle.refusal.specs.declared.Refusal.TheVariants.{NoFreePlace};
-
 use block::Block;
-use collector::{Answers, Collector};
+use calendar::Calendar;
+use collector::Collector;
 use message::{Kind, Mark, basic, read, write};
-use refusal::Refusal;
+use sender::Sender;
 use std::io;
+use tape::Tape;
 use value_text::HexBytes;
 
 const CV: [u8; 34] = *b"Dohimpas path 1 trail identifier\0\0";
@@ -19,23 +19,9 @@ const FIRST_TIME: [u8; 10] = [0x37, 0x9A, 0x05, 0x51, 0x91, 0x52, 0x35, 0x98, 0,
 
 const SECOND_TIME: [u8; 10] = [0x35, 0x98, 0x14, 0x75, 0x91, 0x50, 0x35, 0x98, 0, 0];
 
-/// One response, as a sender holds it until it is sent.
-#[derive(Drop)]
-struct Desk {
-    waiting: Option<[u8; 26]>,
-}
-
-impl Answers for Desk {
-    ghost left = { λ desk values r after. MatchResult r (λ _. (desk.waiting ≡ None) × (after.waiting ≡ Some values)) (λ cause. (cause ≡ NoFreePlace) × (is_some desk.waiting ≡ true) × (after ≡ desk)) };
-
-    fn leave(&mut self, values: &[u8; 26]) -> Result<(), Refusal> {
-        if self.waiting.is_some() {
-            return Err(Refusal::NoFreePlace);
-        }
-        self.waiting = Some(*values);
-        Ok(())
-    }
-}
+// As many blocks as a sender sends in one round of 64 low priority opportunities: 128 cycles of 33 frames, of 992 blocks each, with 32 blocks
+// between them. The next block of a response that is left goes within them.
+const SENDS: u32 = 128 * (33 * 992 + 32);
 
 // The blocks of a message, and idles behind them, since `write` takes lent places; `give` ends at the first block that is no message.
 fn made(kind: Kind, values: &[u8]) -> [Block; 17] {
@@ -132,15 +118,15 @@ fn give_woven(rt: &impl Print, collector: &mut Collector) -> io::Result<()> {
     give(rt, collector, "woven", &woven)
 }
 
-// The question that waits, if one does, is answered at the desk or, if that is taken, declined.
-fn answer(rt: &impl Print, collector: &mut Collector, desk: &mut Desk) -> io::Result<()> {
+// The question that waits, if one does, is answered by the sender or, where that refuses, declined.
+fn answer(rt: &impl Print, collector: &mut Collector, sender: &mut Sender) -> io::Result<()> {
     let Some(question) = collector.collect() else {
         return println!(rt; "no question");
     };
-    match question.answer(
+    match sender.answer(
+        question,
         [1, 2, 3, 4, 5, 6, 7, 8],
         [9, 10, 11, 12, 13, 14, 15, 16],
-        desk,
     ) {
         Ok(()) => println!(rt; "answered"),
         Err((cause, question)) => {
@@ -151,12 +137,31 @@ fn answer(rt: &impl Print, collector: &mut Collector, desk: &mut Desk) -> io::Re
     }
 }
 
-fn response(values: [u8; 26]) -> [Block; 17] {
-    made(Kind::TwoDmr, &values)
+// The next block of a response that the sender sends, and an idle if none goes.
+fn next_of_response(sender: &mut Sender, nothing: &mut Tape) -> Block {
+    for _ in 0..SENDS {
+        let block = sender.send(nothing);
+        if let Some(said) = read(&block)
+            && said.kind == Some(Kind::TwoDmr)
+        {
+            return block;
+        }
+    }
+    Block::idle()
+}
+
+// The blocks of the response as the sender sends them, with nothing to send for clients, and idles behind them.
+fn response(sender: &mut Sender) -> [Block; 17] {
+    let mut nothing = Tape::new(&mut []);
+    let mut blocks = [Block::idle(); 17];
+    for place in blocks.iter_mut().take(Kind::TwoDmr.blocks()) {
+        *place = next_of_response(sender, &mut nothing);
+    }
+    blocks
 }
 
 fn ask(rt: &impl Print, collector: &mut Collector) -> io::Result<()> {
-    let mut desk = Desk { waiting: None };
+    let mut sender = Sender::new(Calendar::empty(), [0; 32]);
     give(rt, collector, "question", &made(Kind::TwoDmm, &FIRST_TIME))?;
     give(
         rt,
@@ -164,19 +169,16 @@ fn ask(rt: &impl Print, collector: &mut Collector) -> io::Result<()> {
         "question in its place",
         &made(Kind::TwoDmm, &SECOND_TIME),
     )?;
-    answer(rt, collector, &mut desk)?;
-    answer(rt, collector, &mut desk)?;
+    answer(rt, collector, &mut sender)?;
+    answer(rt, collector, &mut sender)?;
     give(
         rt,
         collector,
         "another question",
         &made(Kind::TwoDmm, &FIRST_TIME),
     )?;
-    answer(rt, collector, &mut desk)?;
-    match desk.waiting {
-        Some(values) => give(rt, collector, "response", &response(values)),
-        None => Ok(()),
-    }
+    answer(rt, collector, &mut sender)?;
+    give(rt, collector, "response", &response(&mut sender))
 }
 
 fn main(rt: HostRuntime) -> io::Result<()> {

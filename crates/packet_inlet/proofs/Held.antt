@@ -76,14 +76,14 @@ pub record Filling (at : ℕ) (old now : PacketReader) (w v : Lists) : Type 0 wh
   pub lender : now.places.ghost_name ≡ old.places.ghost_name
   pub filled : Filled old.client (at - old.held) w v (held_blocks old) (held_blocks now)
 
-pub filling_none : (old : PacketReader) (w : Lists) → Filling old.held old old w w
-filling_none old w = record {
-  held = refl;
+pub filling_none : (at : ℕ) (old : PacketReader) (w : Lists) → at ≡ old.held → Filling at old old w w
+filling_none at old w here = record {
+  held = sym here;
   from = omega arith;
   client = refl;
   places = refl;
   lender = refl;
-  filled = let none : old.held - old.held ≡ 0 = omega arith in rw none (filled_none old.client w (held_blocks old));
+  filled = let none : at - old.held ≡ 0 = omega arith in rw none (filled_none old.client w (held_blocks old));
 }
 
 pub filling_more :
@@ -141,8 +141,8 @@ module _ (at : ℕ) (old now : PacketReader) (w v : Lists) (filling : Filling at
       (contents_are out.0, out.1 ∙ ap (λ n. without_first (reader_places old - n) old.client w) (sym count))
 
 -- what is within reach and what waits behind it are all blocks; those removed are from its front
-pub none_lost : (old now : PacketReader) (w v : Lists) (used : ℕ) → now.client ≡ old.client → held_blocks now ≡ drop used (blocks_in_reach old w) → used ≤ length (blocks_in_reach old w) → v ≡ without_first (reader_places old - length (held_blocks old)) old.client w → blocks_to_read now v ≡ drop used (blocks_to_read old w)
-none_lost old now w v used client held few left =
+pub none_lost : (old now : PacketReader) (w v : Lists) (count used : ℕ) → count ≡ used → now.client ≡ old.client → held_blocks now ≡ drop count (blocks_in_reach old w) → used ≤ length (blocks_in_reach old w) → v ≡ without_first (reader_places old - length (held_blocks old)) old.client w → blocks_to_read now v ≡ drop used (blocks_to_read old w)
+none_lost old now w v count used same client held few left =
     let places : ℕ = reader_places old in
     let l : List Block = held_blocks old ++ w old.client in
     let size : length (held_blocks old) + (places - length (held_blocks old)) ≡ places = omega (arith, length-take-le old.held old.places.now old.within, old.within) in
@@ -152,7 +152,7 @@ none_lost old now w v used client held few left =
     ∙ updated_here w old.client (drop (places - length (held_blocks old)) (w old.client))
     ∙ sym (drop-append-add (held_blocks old) (w old.client) (places - length (held_blocks old)))
     ∙ ap (λ n. drop n l) size in
-    ap (λ h. h ++ v now.client) held
+    ap (λ h. h ++ v now.client) (held ∙ ap (λ n. drop n (blocks_in_reach old w)) same)
     ∙ ap (λ t. drop used (take places l) ++ t) behind
     ∙ sym (drop-append-le used (take places l) (drop places l) few)
     ∙ ap (drop used) (take-append-drop places l)

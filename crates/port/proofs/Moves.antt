@@ -79,13 +79,14 @@ taking_none f c w out = record { blocks = refl; left = sym (updated_same w c) }
 
 -- one block more
 pub taking_more :
-    (f : Block) (c n : ℕ) (w v u : Lists) (out : List Block) (o : Option Block) (x : Block) → n < length out → Taking f c n w v out →
-    o ≡ first_of (v c) → x ≡ unwrap_or o f → u ≡ lists_after_next c v → Taking f c (n + 1) w u (set out n x)
-taking_more f c n w v u out o x low one first is left =
+    (f : Block) (c n at : ℕ) (w v u : Lists) (out : List Block) (o : Option Block) (x : Block) → at ≡ n → n < length out → Taking f c n w v out →
+    o ≡ first_of (v c) → x ≡ unwrap_or o f → u ≡ lists_after_next c v → Taking f c (n + 1) w u (set out at x)
+taking_more f c n at w v u out o x here low one first is left =
     let next : x ≡ or_filler f (first_of (drop n (w c))) = is ∙ ap (or_filler f) first ∙ ap (λ d. or_filler f (first_of d)) (here_is c n w v one.left) in
     record {
       blocks =
-          take_more_set out n x low
+          ap (λ (k : ℕ). take (n + 1) (set out k x)) here
+          ∙ take_more_set out n x low
           ∙ ap (λ l. l ++ (x ∷ [])) one.blocks
           ∙ ap (λ b. padded_blocks f n (w c) ++ (b ∷ [])) next
           ∙ sym (padded_more f n (w c));

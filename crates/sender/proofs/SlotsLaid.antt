@@ -1,6 +1,6 @@
 -- What the loop over the slots keeps.
 use Rattle.std.proofs.Common.{◌≡◌, ℕ, zero, suc, ◌+◌, ◌-◌, ◌<◌, ◌≤◌, ◌⊎◌, inl, inr, ⊎_elim, List, [], ◌∷◌, ◌++◌, length, get_or, take, set, sym, refl, subst, ap, ◌∙◌, ap₂, arith}
-use Rattle.std.proofs.lemmas.List.{take_all, take_more, take_more_set, length-set}
+use Rattle.std.proofs.lemmas.List.{take_all, take_more_set, length-set}
 use Rattle.std.proofs.lemmas.Bool.{cases_lt}
 use Rattle.block.specs.declared.Block.{Block}
 use Rattle.block.specs.declared.Pair.{Pair}
@@ -9,17 +9,8 @@ use Rattle.numbers.specs.Walk.{numbers_between}
 use Rattle.numbers.proofs.Walks.{numbers_between_next, numbers_between_end}
 use Rattle.under_way.specs.Departure.{Departure}
 use Rattle.under_way.specs.Leaving.{slots_answer, with_pair}
+use Rattle.sending.proofs.Laying.{lists_more, pairs_more}
 use Rattle.sending.specs.Laid.{lists_after_frame, lists_after_slot, pair_for, pairs_for}
-
-laid_push : (es : List ℕ) (e : ℕ) (w : Lists) → pairs_for (es ++ (e ∷ [])) w ≡ pairs_for es w ++ (pair_for e (lists_after_frame es w) ∷ [])
-unfolding pairs_for lists_after_frame
-laid_push [] e w = refl
-laid_push (d ∷ es) e w = ap (λ l. pair_for d w ∷ l) (laid_push es e (lists_after_slot d w))
-
-left_push : (es : List ℕ) (e : ℕ) (w : Lists) → lists_after_frame (es ++ (e ∷ [])) w ≡ lists_after_slot e (lists_after_frame es w)
-unfolding lists_after_frame
-left_push [] e w = refl
-left_push (d ∷ es) e w = left_push es e (lists_after_slot d w)
 
 -- slots 1 to n are laid, from the lists w, of which v is left
 pub record Laid (entries : List ℕ) (n : ℕ) (w v : Lists) (frame : Departure) (to_come : List ℕ) : Type 0 where
@@ -77,12 +68,10 @@ one_laid entries n w v u frame new to_come rest k p long s e pair left made many
           ∙ take_more_set frame.pairs n p (omega (arith, h.0, many_pairs))
           ∙ ap (λ (l : List Pair). l ++ (p ∷ [])) s.laid
           ∙ ap (λ (q : Pair). pairs_for (take n entries) w ++ (q ∷ [])) (pair ∙ ap (λ (x : ℕ). pair_for x v) entry ∙ ap (pair_for (get_or entries n 0)) s.left)
-          ∙ sym (laid_push (take n entries) (get_or entries n 0) w)
-          ∙ ap (λ (l : List ℕ). pairs_for l w) (sym (take_more entries n 0 (omega (arith, h.0, long))));
+          ∙ sym (pairs_more entries w n (omega (arith, h.0, long)));
       left =
           left ∙ ap (λ (x : ℕ). lists_after_slot x v) entry ∙ ap (lists_after_slot (get_or entries n 0)) s.left
-          ∙ sym (left_push (take n entries) (get_or entries n 0) w)
-          ∙ ap (λ (l : List ℕ). lists_after_frame l w) (sym (take_more entries n 0 (omega (arith, h.0, long))));
+          ∙ sym (lists_more entries w n (omega (arith, h.0, long)));
     }
 
 -- all slots are laid, where none is to come

@@ -1,9 +1,11 @@
 //! What can be done with a sender.
 
-ghost use Rattle.std.specs.Prelude.{◌≡◌, ◌<◌, [], ◌∷◌, ◌++◌, Some};
+ghost use Rattle.std.specs.Prelude.{◌≡◌, ◌<◌, [], ◌∷◌, ◌++◌, IfErr, Some};
 ghost use Rattle.block.specs.Fixed.{start_block};
 ghost use Rattle.calendar.specs.Entries.{entries_of};
+ghost use Rattle.collector.specs.Reply.{reply_answer, reply_values};
 ghost use Rattle.message.specs.Kinds.{kind_of};
+ghost use Rattle.message.specs.declared.Kind.TheVariants.{TwoDmr};
 ghost use Rattle.sending.specs.Life.{Lengthens, leave, made, send, state_of};
 ghost use Rattle.sending.specs.Messages.{cs_block, cv_block};
 ghost use Rattle.sending.specs.Laid.{lists_after_frame};
@@ -13,6 +15,7 @@ use crate::Sender;
 use crate::laying::lay;
 use block::Block;
 use calendar::Calendar;
+use collector::Question;
 use message::{Kind, basic};
 use numbers::FrameNumber;
 use overhead::Overhead;
@@ -69,6 +72,23 @@ impl Sender {
         ensures life { Lengthens self.old (leave (kind_of code) values.now) self.new [] }
     {
         self.messages.leave_code(code, values)
+    }
+
+    /// Answers a question of two-way delay: leaves the response (2DMR), with the time at which the question was received and that at which the
+    /// response is sent. Refused where a delay message waits (9): the question comes back, still to be answered or declined, and the sender is as
+    /// before.
+    pub fn answer(
+        &mut self,
+        question: Question,
+        received: [u8; 8],
+        sent: [u8; 8],
+    ) -> Result<(), (Refusal, Question)>
+        ensures answer { reply_answer result ≡ leave_answer self.old.state (Some TwoDmr) (reply_values question.time received sent) }
+        ensures sender { self.new ≡ with_state self.old (state_after_leave self.old.state (Some TwoDmr) (reply_values question.time received sent)) }
+        ensures back { IfErr result (λ e. e.1 ≡ question) }
+        ensures life { Lengthens self.old (leave (Some TwoDmr) (reply_values question.time received sent)) self.new [] }
+    {
+        question.answer(received, sent, &mut self.messages)
     }
 
     // Begins what stands next in the schedule, between frames.

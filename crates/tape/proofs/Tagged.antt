@@ -86,8 +86,8 @@ place_freed es n c h =
     holding_by (client_blocks (without_first_with client_of c es)) (lists_after_next c (client_blocks es)) _ _ (rest_is es c) (fun_ext (λ _. fewer))
 
 -- the same, over what the queue answers
-pub first_by : (es : List TaggedBlock) (c i : ℕ) (r : Option TaggedBlock) → i ≡ c → r ≡ first_with client_of i es → option_map block_of r ≡ first_of (client_blocks es c)
-first_by es c i r q e = ap (option_map block_of) (e ∙ ap (λ j. first_with client_of j es) q) ∙ first_is es c
+pub first_by : (es : List TaggedBlock) (c i : ℕ) (r : Option TaggedBlock) → r ≡ first_with client_of i es → i ≡ c → option_map block_of r ≡ first_of (client_blocks es c)
+first_by es c i r e q = ap (option_map block_of) (e ∙ ap (λ j. first_with client_of j es) q) ∙ first_is es c
 
 pub next_by : (es : List TaggedBlock) (n c i : ℕ) (g : GName) (left : QueueContents TaggedBlock) → i ≡ c → length es ≤ n → left ≡ record { entries = without_first_with client_of i es; places = n; lender = g } → shared left.entries left.places ≡ tape_holding_after_next c (shared es n)
 next_by es n c i g left q h e = ap (λ (k : QueueContents TaggedBlock). shared k.entries k.places) e ∙ ap (λ j. shared (without_first_with client_of j es) n) q ∙ place_freed es n c h

@@ -7,7 +7,7 @@ loop-i-init g c = taking_none _ _ _ _
 
 pub loop-i-preserved : goal.loop-i-preserved
 loop-i-preserved g c =
-    taking_more _ _ c.loop-i.i _ _ _ _ _ _ (omega arith) c.loop-i.invariant
+    taking_more _ _ c.loop-i.i _ _ _ _ _ _ _ (omega arith) (omega arith) c.loop-i.invariant
     c.next.ensures.first c.unwrap_or-sync.ensures c.next.ensures.rest
 
 pub returns : goal.returns

@@ -3,12 +3,12 @@ use Rattle.packet_inlet.proofs.Held.{filling_all, filling_more, filling_none, fi
 use Rattle.packet_inlet.proofs.reader.PacketReader.fill.Goals as goal
 
 pub loop-place-init : goal.loop-place-init
-loop-place-init g c = filling_none _ _
+loop-place-init g c = filling_none _ _ _ (omega arith)
 
 pub loop-place-preserved : goal.loop-place-preserved
 loop-place-preserved g c =
     filling_more c.loop-place.place c.args.self.now c.loop-place.self _ _ _ _ _ c.loop-place.invariant (omega (arith, c.loop-place.invariant.places))
-    c.in-Some.ensures.first c.next.ensures.rest refl refl refl refl
+    c.in-Some.ensures.first c.next.ensures.rest (omega arith) refl refl refl
 
 pub returns-in_default : goal.returns-in_default
 returns-in_default g c =

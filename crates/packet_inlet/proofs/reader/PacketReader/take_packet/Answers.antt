@@ -1,4 +1,4 @@
-use Rattle.std.proofs.Common.{◌≡◌, ◌≤◌, drop, length, ap, ◌∙◌, arith}
+use Rattle.std.proofs.Common.{◌≡◌, ◌≤◌, drop, length, refl, ap, ◌∙◌, arith}
 use Rattle.std.proofs.lemmas.Result.{err_from_is_err_and}
 use Rattle.packet_inlet.specs.Reader.{ReaderContents, blocks_in_reach, blocks_to_read, held_blocks, reader_places}
 use Rattle.packet_inlet.proofs.Held.{comes_back, none_lost}
@@ -10,7 +10,7 @@ returns-in_err-bytes-clause-none_lost g c =
     let w = g.I.Inlet.waiting c.args.inlet.now in
     let p = err_from_is_err_and c.from_residual.result c.from_residual.ensures.1 in
     rw p.1
-    (none_lost old c.fill.new.self w (g.I.Inlet.waiting c.fill.new.inlet) 0 (ap (λ (r : ReaderContents). r.client) c.fill.ensures.contents)
+    (none_lost old c.fill.new.self w (g.I.Inlet.waiting c.fill.new.inlet) 0 0 refl (ap (λ (r : ReaderContents). r.client) c.fill.ensures.contents)
     (ap (λ (r : ReaderContents). r.blocks) c.fill.ensures.contents) (omega arith) c.fill.ensures.left)
 
 pub returns-in_err-bytes-clause-back : goal.returns-in_err-bytes-clause-back
@@ -27,9 +27,9 @@ returns-clause-none_lost g c =
     let w = g.I.Inlet.waiting c.args.inlet.now in
     let held : held_blocks c.fill.new.self ≡ blocks_in_reach old w = ap (λ (r : ReaderContents). r.blocks) c.fill.ensures.contents in
     let within : c.in_ok-bytes.used ≤ length (blocks_in_reach old w) = omega (arith, c.in_ok-bytes.ensures.used, ap length (c.blocks-2.ensures ∙ held)) in
-    none_lost old c.remove.new.self w (g.I.Inlet.waiting c.fill.new.inlet) c.in_ok-bytes.used
+    none_lost old c.remove.new.self w (g.I.Inlet.waiting c.fill.new.inlet) _ c.in_ok-bytes.used (omega arith)
     (ap (λ (r : ReaderContents). r.client) c.remove.ensures ∙ ap (λ (r : ReaderContents). r.client) c.fill.ensures.contents)
-    (ap (λ (r : ReaderContents). r.blocks) c.remove.ensures ∙ ap (drop c.in_ok-bytes.used) held) within c.fill.ensures.left
+    (ap (λ (r : ReaderContents). r.blocks) c.remove.ensures ∙ ap (drop _) held) within c.fill.ensures.left
 
 pub returns-clause-back : goal.returns-clause-back
 returns-clause-back g c =

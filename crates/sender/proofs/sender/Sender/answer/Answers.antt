@@ -1,0 +1,10 @@
+-- An answer makes a life longer by one.
+use Rattle.std.proofs.Common.{Some}
+use Rattle.message.specs.declared.Kind.TheVariants.{TwoDmr}
+use Rattle.collector.specs.Reply.{reply_values}
+use Rattle.sender.proofs.Behind.{leave_lengthens}
+use Rattle.sender.proofs.sender.Sender.answer.Goals as goal
+
+pub returns-clause-life : goal.returns-clause-life
+returns-clause-life c =
+    leave_lengthens c.args.self.now _ (Some TwoDmr) (reply_values c.args.question.time c.args.received c.args.sent) c.self.view_is c.answer.ensures.left
