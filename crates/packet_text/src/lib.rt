@@ -34,8 +34,8 @@ fn all_hex(text: &[u8]) -> bool
     text.iter().all(|byte| is_hex_digit(*byte))
 }
 
-// Is this a text of hexadecimal digits in small letters, two for each byte?
-fn is_hex(text: &[u8]) -> bool
+/// Is this a text of hexadecimal digits in small letters, two for each byte?
+pub fn is_hex(text: &[u8]) -> bool
     ensures { result ≡ is_hex text.now }
 {
     all_hex(text) && text.len() % 2 == 0

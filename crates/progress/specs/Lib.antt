@@ -1,0 +1,3 @@
+pub mod Goals
+pub mod Laws
+pub mod Reports
