@@ -19,7 +19,7 @@ pub(crate) fn lay<I: Inlet>(calendar: &Calendar, inlet: &mut I, frame: &mut Outg
 {
     for slot in SlotNumber::all() {
         let pair = pair_for(calendar.client(slot), inlet);
-        // never refused: no frame is being send_result
+        // never refused: no frame is being sent
         let _ = frame.write_pair(slot, pair);
     }
 }

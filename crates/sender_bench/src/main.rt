@@ -3,10 +3,6 @@
 //! first and the last tenth of them.
 #![tactic(auto)]
 
-ghost use Rattle.std.specs.Prelude.{◌≡◌};
-ghost use Rattle.sending.specs.Sender.{send_of, with_state};
-ghost use Rattle.bank.specs.Lists.{bank_lists};
-
 use bank::Bank;
 use block::{Block, Pair, Sync};
 use calendar::Calendar;
@@ -24,17 +20,8 @@ const WIDTH: usize = 256;
 
 // Rounds of a tenth, and the blocks that are sent in a round.
 const ROUNDS: usize = 100;
-const SENDS: usize = 1_000;
 
-// It is called, as a program calls a sender.
-#[inline(never)]
-fn send(sender: &mut Sender, bank: &mut Bank) -> Block
-    ensures block { result ≡ (send_of sender.old (bank_lists bank.old)).block }
-    ensures sender { sender.new ≡ with_state sender.old (send_of sender.old (bank_lists bank.old)).state }
-    ensures lists { bank_lists bank.new ≡ (send_of sender.old (bank_lists bank.old)).waiting }
-{
-    sender.send(bank)
-}
+const SENDS: usize = 1_000;
 
 // The next of a sequence of numbers of many bits (xorshift).
 fn next(x: u64) -> u64 {
@@ -85,7 +72,7 @@ fn send_tenth(sender: &mut Sender, bank: &mut Bank, start: (u64, u64)) -> (u64, 
     for _ in 0..ROUNDS {
         x = fill(bank, x);
         for _ in 0..SENDS {
-            sum = with_block(sum, &send(sender, bank));
+            sum = with_block(sum, &sender.send(bank));
         }
     }
     (x, sum)
