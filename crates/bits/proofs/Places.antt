@@ -2,7 +2,7 @@
 use Rattle.std.proofs.Common.{◌≡◌, ℕ, zero, suc, ◌+◌, ◌-◌, ◌*◌, ◌/◌, ◌%◌, ◌^◌, ◌<◌, ◌≤◌, min, Bool, true, false, eqb, ◌⊎◌, List, [], ◌∷◌, ◌++◌, length, get_or, take, drop, sym, refl, ap, ◌∙◌, ap₂, inl, inr, ⊎_elim, pow-suc, div-one, arith, shr-shr}
 use Rattle.std.proofs.lemmas.List.{length-append, get_or_append_left, get_or-append-add, drop_more, length-drop, take_all, take_at, drop_at, length-take-le, take-append-drop, nil_from_length}
 use Rattle.std.proofs.lemmas.Bool.{cases_lt}
-use Rattle.bits.specs.Bits.{odd, low_first, bits, field, low_value, packed_bytes, Numbered}
+use Rattle.bits.specs.Bits.{odd, low_first, bits, field, low_value, packed_bytes, BitsAreNumbered}
 use Rattle.bits.proofs.Digits.{digit}
 
 pub length_low : (k n : ℕ) → length (low_first k n) ≡ k
@@ -76,7 +76,7 @@ unpacks (suc n) bs h =
     (unpacks n (drop 8 bs) (omega (arith, length-drop 8 bs)))
     ∙ take-append-drop 8 bs
 
-pub numbered : Numbered
+pub numbered : BitsAreNumbered
 numbered = record { eight = length_bits; places = bit_place; packs = packs; unpacks = unpacks }
 
 -- a field begins with its first bit

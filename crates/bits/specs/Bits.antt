@@ -42,7 +42,7 @@ packed_bytes zero bs = []
 packed_bytes (suc n) bs = low_value (take 8 bs) ∷ packed_bytes n (drop 8 bs)
 
 -- How the bits of bytes are numbered, and that bits and bytes are each made from the other.
-pub record Numbered : Type 0 where
+pub record BitsAreNumbered : Type 0 where
   -- a byte has eight bits, and bit 8 q + r is the digit of weight 2 ^ r of byte q
   pub eight : (bytes : List ℕ) → length (bits bytes) ≡ 8 * length bytes
   pub places : (bytes : List ℕ) (q r : ℕ) → q < length bytes → r < 8 → slice_index_or (bits bytes) (8 * q + r) false ≡ odd (slice_index bytes q / 2 ^ r)

@@ -7,7 +7,7 @@ use Rattle.bits.specs.Bits.{bits, field}
 use Rattle.crc.specs.Remainder.{remainder}
 use Rattle.message.specs.Values.{crc12}
 use Rattle.bits.proofs.Parts.{take_bits}
-use Rattle.collector.specs.Content.{Content, zero_padded}
+use Rattle.collector.specs.Content.{MessageContent, zero_padded}
 use Rattle.collector.proofs.Sizes.{few_blocks}
 use Rattle.collector.specs.declared.assembly.Outcome.TheVariants.{Corrupt, Whole}
 use Rattle.collector.specs.Outcomes.{tested_outcome}
@@ -68,10 +68,10 @@ pub remainder_is : (vs : List ℕ) (r n d t : ℕ) → r ≡ remainder d t (fiel
     → r ≡ crc12 (bits (take (2 * n) vs))
 remainder_is vs r n d t e f g = e ∙ ap₂ (λ (w G : ℕ). remainder w G (field vs 0 (16 * n))) f g ∙ ap crc12 (field_all vs n)
 
-pub is_whole : (u : Content) (r : ℕ) → r ≡ crc12 (bits u.values) → r ≡ 0 → Whole u ≡ tested_outcome u
+pub is_whole : (u : MessageContent) (r : ℕ) → r ≡ crc12 (bits u.values) → r ≡ 0 → Whole u ≡ tested_outcome u
 is_whole u r e z = sym (ap (λ (t : Bool). cond t (Whole u) Corrupt) (eq-eqb (crc12 (bits u.values)) 0 (sym e ∙ z)))
 
-pub is_wrong : (u : Content) (r : ℕ) → r ≡ crc12 (bits u.values) → (r ≡ 0 → ⊥) → Corrupt ≡ tested_outcome u
+pub is_wrong : (u : MessageContent) (r : ℕ) → r ≡ crc12 (bits u.values) → (r ≡ 0 → ⊥) → Corrupt ≡ tested_outcome u
 is_wrong u r e z = sym (ap (λ (t : Bool). cond t (Whole u) Corrupt) (ne_eqb (crc12 (bits u.values)) 0 (λ f. z (e ∙ f))))
 
 pub ruleset extending = (still_padded, length_taken, few_blocks)

@@ -11,13 +11,13 @@ use Rattle.message.specs.Written.{message_parts}
 use Rattle.message.proofs.Pairs.{take_two}
 use Rattle.collector.specs.declared.BlockError.TheVariants.{WrongRemainder, UnknownCode}
 use Rattle.collector.specs.declared.Report.{Report}
-use Rattle.collector.specs.Content.{Content}
-use Rattle.collector.specs.State.{State}
+use Rattle.collector.specs.Content.{MessageContent}
+use Rattle.collector.specs.State.{CollectorState}
 use Rattle.collector.specs.declared.assembly.Outcome.{Outcome}
 use Rattle.collector.specs.declared.assembly.Outcome.TheVariants.{Broken, Incomplete, Corrupt, Whole}
 use Rattle.collector.specs.Outcomes.{continued_outcome, empty_message, extended_outcome, marked_outcome, next_outcome, same_kind, tested_outcome, with_block}
 use Rattle.collector.specs.Step.{found_of, is_aps, is_broken, new_state, one_mark, report_basic, report_kind, report_of, report_part, same_bool}
-use Rattle.collector.specs.Runs.{ArrivesCorrupt, Call, Follows, NoneUnderWay, UnderWay, collect, begins, continues, give, goes_kind, goes_to, own, state_after}
+use Rattle.collector.specs.Runs.{ArrivesCorrupt, CollectorCall, Follows, NoneUnderWay, UnderWay, collect, begins, continues, give, goes_kind, goes_to, own, state_after}
 use Rattle.collector.proofs.Extends.{last_test}
 use Rattle.collector.proofs.SameKinds.{one_kind, same_true}
 use Rattle.collector.proofs.Collections.{coll, advances, coll_run, advances_append}
@@ -31,7 +31,7 @@ AllGo : Bool → List MessageBlock → Type 0
 AllGo g [] = Unit {0}
 AllGo g (b ∷ bs) = (goes_to g b ≡ true) × AllGo g bs
 
-own_go : (g : Bool) (cs : List Call) → AllGo g (own g cs)
+own_go : (g : Bool) (cs : List CollectorCall) → AllGo g (own g cs)
 unfolding AllGo
 own_go g [] = tt
 own_go g (collect ∷ cs) = own_go g cs
@@ -47,7 +47,7 @@ last_goes g [] b h = h.0
 last_goes g (x ∷ xs) b h = last_goes g xs b h.1
 
 -- the collection holds the message that is under way
-pub under_way_held : (g : Bool) (before : List Call) (k : Kind) (us : List ℕ) → UnderWay g before k us
+pub under_way_held : (g : Bool) (before : List CollectorCall) (k : Kind) (us : List ℕ) → UnderWay g before k us
     → coll g (state_after new_state before) ≡ Some (content k us)
 under_way_held g before k us U =
     let i : ℕ = U.blocks in
@@ -74,7 +74,7 @@ under_way_held g before k us U =
     ∙ collected g k us (advances g c U.front) goes i (omega arith) U.some U.few
     ∙ ap (λ (vs : List ℕ). Some (content k vs)) all
 
-abbrev held_under_way : (g : Bool) (before : List Call) (k : Kind) (u : Content) → Came (own g before) (Some u) → u.kind ≡ k → UnderWay g before k u.values
+abbrev held_under_way : (g : Bool) (before : List CollectorCall) (k : Kind) (u : MessageContent) → Came (own g before) (Some u) → u.kind ≡ k → UnderWay g before k u.values
 held_under_way g before k u C e = record {
   front = C.2.front;
   is = C.2.is ∙ ap (λ (z : Kind). C.2.front ++ message_parts z u.values) e;
@@ -86,46 +86,46 @@ held_under_way g before k u C e = record {
 
 -- ---- P3
 
-unbroken_marks : (u : Content) (e l : Bool) → is_broken (marked_outcome u e l) ≡ false → e ≡ l
+unbroken_marks : (u : MessageContent) (e l : Bool) → is_broken (marked_outcome u e l) ≡ false → e ≡ l
 unbroken_marks u true true h = refl
 unbroken_marks u true false h = cc
 unbroken_marks u false true h = cc
 unbroken_marks u false false h = refl
 
-unbroken_tested : (u : Content) → is_broken (tested_outcome u) ≡ false
+unbroken_tested : (u : MessageContent) → is_broken (tested_outcome u) ≡ false
 unbroken_tested u = go (eqb (crc12 (bits u.values)) 0)
   where
     go : (t : Bool) → is_broken (cond t (Whole u) Corrupt) ≡ false
     go true = refl
     go false = refl
 
-pub marks_unbroken : (u : Content) (e l : Bool) → e ≡ l → is_broken (marked_outcome u e l) ≡ false
+pub marks_unbroken : (u : MessageContent) (e l : Bool) → e ≡ l → is_broken (marked_outcome u e l) ≡ false
 marks_unbroken u true true h = unbroken_tested u
 marks_unbroken u true false h = absurd (let z : ◌≡◌ {A = ℕ} 0 1 = cc in omega arith)
 marks_unbroken u false true h = absurd (let z : ◌≡◌ {A = ℕ} 0 1 = cc in omega arith)
 marks_unbroken u false false h = refl
 
-ends_of : (u : Content) (b : MessageBlock) (i : ℕ) → length u.values ≡ 2 * i → is_broken (extended_outcome u b) ≡ false → b.ends ≡ eqb (i + 1) (block_count_of u.kind)
+ends_of : (u : MessageContent) (b : MessageBlock) (i : ℕ) → length u.values ≡ 2 * i → is_broken (extended_outcome u b) ≡ false → b.ends ≡ eqb (i + 1) (block_count_of u.kind)
 ends_of u b i l h =
     unbroken_marks (with_block u b) b.ends (eqb (length (with_block u b).values) (2 * block_count_of u.kind)) h
     ∙ last_test u.values i (block_count_of u.kind) b.first b.second l
 
-ends_unbroken : (u : Content) (b : MessageBlock) (i : ℕ) → length u.values ≡ 2 * i → b.ends ≡ eqb (i + 1) (block_count_of u.kind) → is_broken (extended_outcome u b) ≡ false
+ends_unbroken : (u : MessageContent) (b : MessageBlock) (i : ℕ) → length u.values ≡ 2 * i → b.ends ≡ eqb (i + 1) (block_count_of u.kind) → is_broken (extended_outcome u b) ≡ false
 ends_unbroken u b i l h =
     marks_unbroken (with_block u b) b.ends (eqb (length (with_block u b).values) (2 * block_count_of u.kind))
     (h ∙ sym (last_test u.values i (block_count_of u.kind) b.first b.second l))
 
 -- whether a block of kind k breaks the sequence, by its start mark and by what its collection holds
-abbrev pub breaks : Kind → MessageBlock → Bool → Option Content → Bool
+abbrev pub breaks : Kind → MessageBlock → Bool → Option MessageContent → Bool
 breaks k b t c = (t && is_some c) || is_broken (cond t (extended_outcome (empty_message k) b) (continued_outcome k c b))
 
-pub broken_is : (s : State) (b : MessageBlock) (k : Kind) → b.kind ≡ Some k → same_kind k Basic ≡ false
+pub broken_is : (s : CollectorState) (b : MessageBlock) (k : Kind) → b.kind ≡ Some k → same_kind k Basic ≡ false
     → (report_of s b).broken ≡ breaks k b b.starts (coll (is_aps k) s)
 broken_is s b k e f =
     ap (λ (x : Option Kind). (report_kind x s b).broken) e
     ∙ ap (λ (t : Bool). (cond t (report_basic b) (report_part k s b)).broken) f
 
-follows_from : (before : List Call) (b : MessageBlock) (k : Kind) → (t : Bool) → b.starts ≡ t → (c : Option Content) → coll (is_aps k) (state_after new_state before) ≡ c
+follows_from : (before : List CollectorCall) (b : MessageBlock) (k : Kind) → (t : Bool) → b.starts ≡ t → (c : Option MessageContent) → coll (is_aps k) (state_after new_state before) ≡ c
     → Came (own (is_aps k) before) c → breaks k b t c ≡ false → Follows before b k
 follows_from before b k true s None e C h =
     begins s
@@ -142,12 +142,12 @@ follows_from before b k false s (Some u) e C h = go (same_kind u.kind k) refl h
         continues u.values (held_under_way (is_aps k) before k u C kind) s
         (ends_of u b C.0 C.2.long q ∙ ap (λ (z : Kind). eqb (C.0 + 1) (block_count_of z)) kind)
 
-none_held : (g : Bool) (before : List Call) → NoneUnderWay g before → (c : Option Content) → coll g (state_after new_state before) ≡ c → coll g (state_after new_state before) ≡ None
+none_held : (g : Bool) (before : List CollectorCall) → NoneUnderWay g before → (c : Option MessageContent) → coll g (state_after new_state before) ≡ c → coll g (state_after new_state before) ≡ None
 none_held g before N None e = e
 none_held g before N (Some u) e =
     absurd (N u.kind u.values (held_under_way g before u.kind u (subst (Came (own g before)) e (came g before)) refl))
 
-unbroken : (before : List Call) (b : MessageBlock) (k : Kind) → Follows before b k → breaks k b b.starts (coll (is_aps k) (state_after new_state before)) ≡ false
+unbroken : (before : List CollectorCall) (b : MessageBlock) (k : Kind) → Follows before b k → breaks k b b.starts (coll (is_aps k) (state_after new_state before)) ≡ false
 unbroken before b k (begins s N e) =
     ap₂ (breaks k b) s (none_held (is_aps k) before N (coll (is_aps k) (state_after new_state before)) refl)
     ∙ ends_unbroken (empty_message k) b 0 refl e
@@ -163,7 +163,7 @@ not_basic k n = go (same_kind k Basic) refl
     go true e = absurd (n (one_kind k Basic e))
     go false e = e
 
-pub sequence : (before : List Call) (b : MessageBlock) (k : Kind) → b.kind ≡ Some k → (k ≡ Basic → ⊥)
+pub sequence : (before : List CollectorCall) (b : MessageBlock) (k : Kind) → b.kind ≡ Some k → (k ≡ Basic → ⊥)
     → ((report_of (state_after new_state before) b).broken ≡ false) ↔ Follows before b k
 sequence before b k e n =
     let is = broken_is (state_after new_state before) b k e (not_basic k n) in (
@@ -171,14 +171,14 @@ sequence before b k e n =
       λ F. is ∙ unbroken before b k F,
     )
 
-pub basic_sequence : (s : State) (b : MessageBlock) → b.kind ≡ Some Basic → (report_of s b).broken ≡ same_bool b.starts b.ends
+pub basic_sequence : (s : CollectorState) (b : MessageBlock) → b.kind ≡ Some Basic → (report_of s b).broken ≡ same_bool b.starts b.ends
 basic_sequence s b e = ap (λ (x : Option Kind). (report_kind x s b).broken) e ∙ go (same_bool b.starts b.ends)
   where
     go : (t : Bool) → (cond {A = Report} (not t) (record { broken = false; found = Ok (Some Basic) }) (record { broken = true; found = Ok None })).broken ≡ t
     go true = refl
     go false = refl
 
-pub unknown_sequence : (s : State) (b : MessageBlock) → b.kind ≡ None → (report_of s b).broken ≡ false
+pub unknown_sequence : (s : CollectorState) (b : MessageBlock) → b.kind ≡ None → (report_of s b).broken ≡ false
 unknown_sequence s b e = ap (λ (x : Option Kind). (report_kind x s b).broken) e
 
 -- ---- P1
@@ -188,7 +188,7 @@ no_wrong : (b : MessageBlock) (t : Bool)
 no_wrong b true w = let z : ◌≡◌ {A = ℕ} 0 1 = cc in omega arith
 no_wrong b false w = let z : ◌≡◌ {A = ℕ} 0 1 = cc in omega arith
 
-wrong_part : (before : List Call) (b : MessageBlock) (k : Kind) (o : Outcome) → b.kind ≡ Some k → same_kind k Basic ≡ false
+wrong_part : (before : List CollectorCall) (b : MessageBlock) (k : Kind) (o : Outcome) → b.kind ≡ Some k → same_kind k Basic ≡ false
     → Makes (own (is_aps k) before ++ b ∷ []) b.kind o → found_of o ≡ Err WrongRemainder → ArrivesCorrupt before b
 wrong_part before b k Broken e f M w = absurd (let z : ◌≡◌ {A = ℕ} 0 1 = cc in omega arith)
 wrong_part before b k (Incomplete u) e f M w = absurd (let z : ◌≡◌ {A = ℕ} 0 1 = cc in omega arith)
@@ -200,12 +200,12 @@ wrong_part before b k Corrupt e f M w = record {
 }
 wrong_part before b k (Whole u) e f M w = absurd (let z : ◌≡◌ {A = ℕ} 0 1 = cc in omega arith)
 
-wrong_kind : (before : List Call) (b : MessageBlock) (o : Option Kind) → b.kind ≡ o
+wrong_kind : (before : List CollectorCall) (b : MessageBlock) (o : Option Kind) → b.kind ≡ o
     → (report_kind o (state_after new_state before) b).found ≡ Err WrongRemainder → ArrivesCorrupt before b
 wrong_kind before b None e w = absurd (let z : ◌≡◌ {A = ℕ} 0 1 = cc in omega arith)
 wrong_kind before b (Some k) e w = go (same_kind k Basic) refl w
   where
-    S : State
+    S : CollectorState
     S = state_after new_state before
 
     go : (t : Bool) → same_kind k Basic ≡ t → (cond t (report_basic b) (report_part k S b)).found ≡ Err WrongRemainder → ArrivesCorrupt before b
@@ -214,7 +214,7 @@ wrong_kind before b (Some k) e w = go (same_kind k Basic) refl w
         wrong_part before b k (next_outcome k (coll (is_aps k) S) b) e r
         (next_makes (own (is_aps k) before) k (coll (is_aps k) S) b (came (is_aps k) before) e) v
 
-pub remainder : (before : List Call) (b : MessageBlock)
+pub remainder : (before : List CollectorCall) (b : MessageBlock)
     → ((report_of (state_after new_state before) b).found ≡ Err WrongRemainder) ↔ ArrivesCorrupt before b
 remainder before b = (
   wrong_kind before b b.kind refl,
@@ -234,7 +234,7 @@ known_basic : (t : Bool)
 known_basic true w = let z : ◌≡◌ {A = ℕ} 0 1 = cc in omega arith
 known_basic false w = let z : ◌≡◌ {A = ℕ} 0 1 = cc in omega arith
 
-unknown_kind : (s : State) (b : MessageBlock) (o : Option Kind) → (report_kind o s b).found ≡ Err UnknownCode → o ≡ None
+unknown_kind : (s : CollectorState) (b : MessageBlock) (o : Option Kind) → (report_kind o s b).found ≡ Err UnknownCode → o ≡ None
 unknown_kind s b None w = refl
 unknown_kind s b (Some k) w = absurd (go (same_kind k Basic) w)
   where
@@ -242,5 +242,5 @@ unknown_kind s b (Some k) w = absurd (go (same_kind k Basic) w)
     go true v = known_basic (one_mark b) v
     go false v = known_part (next_outcome k (coll (is_aps k) s) b) v
 
-pub unknown : (s : State) (b : MessageBlock) → ((report_of s b).found ≡ Err UnknownCode) ↔ (b.kind ≡ None)
+pub unknown : (s : CollectorState) (b : MessageBlock) → ((report_of s b).found ≡ Err UnknownCode) ↔ (b.kind ≡ None)
 unknown s b = (unknown_kind s b b.kind, λ e. ap (λ (x : Option Kind). (report_kind x s b).found) e)

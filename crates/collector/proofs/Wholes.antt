@@ -18,13 +18,13 @@ use Rattle.message.proofs.Laws.{laws}
 use Rattle.message.proofs.Pairs.{paired_push, take_two}
 use Rattle.message.proofs.Writes.{lawful_length, some_blocks}
 use Rattle.collector.specs.declared.BlockError.TheVariants.{WrongRemainder}
-use Rattle.collector.specs.Content.{Content}
-use Rattle.collector.specs.State.{State, last_of, place_of}
+use Rattle.collector.specs.Content.{MessageContent}
+use Rattle.collector.specs.State.{CollectorState, last_of, place_of}
 use Rattle.collector.specs.declared.assembly.Outcome.{Outcome}
 use Rattle.collector.specs.declared.assembly.Outcome.TheVariants.{Broken, Corrupt, Whole}
 use Rattle.collector.specs.Outcomes.{continued_outcome, extended_outcome, marked_outcome, next_outcome, same_kind, tested_outcome, unfinished_of}
 use Rattle.collector.specs.Step.{after, after_kind, after_part, after_basic, found_of, is_aps, report_basic, report_kind, report_of, report_part, after_outcome}
-use Rattle.collector.specs.Runs.{Call, give, goes_kind, goes_to, own, state_after, Arrives, Completes}
+use Rattle.collector.specs.Runs.{CollectorCall, give, goes_kind, goes_to, own, state_after, Arrives, Completes}
 use Rattle.collector.specs.Laws.{FoundWhole}
 use Rattle.collector.proofs.Sizes.{few_blocks}
 use Rattle.collector.proofs.Extends.{last_test}
@@ -36,7 +36,7 @@ use Rattle.collector.proofs.Sounds.{place_below, places_kept}
 abbrev pub part_at : Kind → ℕ → ℕ → ℕ → MessageBlock
 part_at k i a b = message_block_of k (eqb i 0) (eqb (i + 1) (block_count_of k)) a b
 
-abbrev pub content : Kind → List ℕ → Content
+abbrev pub content : Kind → List ℕ → MessageContent
 content k us = record { kind = k; values = us }
 
 pub parts_push : (k : Kind) (i : ℕ) (us : List ℕ) (a b : ℕ) → length us ≡ 2 * i → message_parts k (us ++ a ∷ b ∷ []) ≡ message_parts k us ++ part_at k i a b ∷ []
@@ -44,14 +44,14 @@ parts_push k i us a b h =
     paired_push (part_at k) i 0 us a b h ∙ ap (λ (j : ℕ). message_parts k us ++ part_at k j a b ∷ []) (let e : 0 + i ≡ i = omega arith in e)
 
 -- a block joins what has come of its message
-joins : (k : Kind) (us : List ℕ) (c : Option Content) (t e : Bool) (a b : ℕ) → (t ≡ true → us ≡ []) → (t ≡ false → c ≡ Some (content k us))
+joins : (k : Kind) (us : List ℕ) (c : Option MessageContent) (t e : Bool) (a b : ℕ) → (t ≡ true → us ≡ []) → (t ≡ false → c ≡ Some (content k us))
     → next_outcome k c (message_block_of k t e a b) ≡ extended_outcome (content k us) (message_block_of k t e a b)
 joins k us c true e a b p q = ap (λ (vs : List ℕ). extended_outcome (content k vs) (message_block_of k true e a b)) (sym (p refl))
 joins k us c false e a b p q =
-    ap (λ (x : Option Content). continued_outcome k x (message_block_of k false e a b)) (q refl)
+    ap (λ (x : Option MessageContent). continued_outcome k x (message_block_of k false e a b)) (q refl)
     ∙ ap (λ (t : Bool). cond t (extended_outcome (content k us) (message_block_of k false e a b)) Broken) (same_true k k refl)
 
-pub joined_part : (k : Kind) (i : ℕ) (us : List ℕ) (c : Option Content) (a b : ℕ) → length us ≡ 2 * i → (1 ≤ i → c ≡ Some (content k us))
+pub joined_part : (k : Kind) (i : ℕ) (us : List ℕ) (c : Option MessageContent) (a b : ℕ) → length us ≡ 2 * i → (1 ≤ i → c ≡ Some (content k us))
     → next_outcome k c (part_at k i a b) ≡ marked_outcome (content k (us ++ a ∷ b ∷ [])) (eqb (i + 1) (block_count_of k)) (eqb (i + 1) (block_count_of k))
 joined_part k i us c a b h q =
     joins k us c (eqb i 0) (eqb (i + 1) (block_count_of k)) a b
@@ -59,7 +59,7 @@ joined_part k i us c a b h q =
     (λ e. q (omega (arith, eqb-false i 0 e)))
     ∙ ap (marked_outcome (content k (us ++ a ∷ b ∷ [])) (eqb (i + 1) (block_count_of k))) (last_test us i (block_count_of k) a b h)
 
-pub part_advances : (g : Bool) (k : Kind) (i : ℕ) (us : List ℕ) (c : Option Content) (a b : ℕ) → goes_kind g (Some k) ≡ true → length us ≡ 2 * i
+pub part_advances : (g : Bool) (k : Kind) (i : ℕ) (us : List ℕ) (c : Option MessageContent) (a b : ℕ) → goes_kind g (Some k) ≡ true → length us ≡ 2 * i
     → (1 ≤ i → c ≡ Some (content k us)) → (i + 1 ≡ block_count_of k → ⊥) → advance g c (part_at k i a b) ≡ Some (content k (us ++ a ∷ b ∷ []))
 part_advances g k i us c a b e h q l =
     ap (λ (t : Bool). cond t (unfinished_of (next_outcome k c (part_at k i a b))) c) e
@@ -67,7 +67,7 @@ part_advances g k i us c a b e h q l =
     ∙ ap (λ (t : Bool). marked_outcome (content k (us ++ a ∷ b ∷ [])) t t) (ne_eqb (i + 1) (block_count_of k) l))
 
 -- before the last block, the collection holds what has come
-pub collected : (g : Bool) (k : Kind) (us : List ℕ) (c : Option Content) → goes_kind g (Some k) ≡ true
+pub collected : (g : Bool) (k : Kind) (us : List ℕ) (c : Option MessageContent) → goes_kind g (Some k) ≡ true
     → (i : ℕ) → 2 * i ≤ length us → 1 ≤ i → i < block_count_of k → advances g c (message_parts k (take (2 * i) us)) ≡ Some (content k (take (2 * i) us))
 collected g k us c e zero l lo hi = absurd (omega arith)
 collected g k us c e (suc j) l lo hi =
@@ -86,7 +86,7 @@ pub not_basic : (g : Bool) (k : Kind) → goes_kind g (Some k) ≡ true → same
 not_basic g k e = not-true (same_kind k Basic) (and_parts (not (same_kind k Basic)) _ e).0
 
 -- a block that makes a message whole
-pub whole_part : (s : State) (b : MessageBlock) (k : Kind) (us : List ℕ) → length s.kept ≡ 7 → b.kind ≡ Some k → same_kind k Basic ≡ false
+pub whole_part : (s : CollectorState) (b : MessageBlock) (k : Kind) (us : List ℕ) → length s.kept ≡ 7 → b.kind ≡ Some k → same_kind k Basic ≡ false
     → next_outcome k (coll (is_aps k) s) b ≡ Whole (content k us)
     → ((report_of s b).found ≡ Ok (Some k)) × (last_of k (after s b) ≡ Some (content k us)) × (k ≡ TwoDmm → (after s b).question ≡ Some (take 8 us))
 whole_part s b k us h e f o = (
@@ -104,12 +104,12 @@ whole_part s b k us h e f o = (
 )
 
 -- the last block of a message that has come in a row brings it to the test of its remainder
-pub record Tested (s : State) (b : MessageBlock) (k : Kind) (us : List ℕ) : Type 0 where
+pub record Tested (s : CollectorState) (b : MessageBlock) (k : Kind) (us : List ℕ) : Type 0 where
   pub kind : b.kind ≡ Some k
   pub other : same_kind k Basic ≡ false
   pub next : next_outcome k (coll (is_aps k) s) b ≡ tested_outcome (content k us)
 
-pub arrived : (s : State) (before : List Call) (b : MessageBlock) (k : Kind) (us : List ℕ) → Arrives before b k us → Tested (state_after s before) b k us
+pub arrived : (s : CollectorState) (before : List CollectorCall) (b : MessageBlock) (k : Kind) (us : List ℕ) → Arrives before b k us → Tested (state_after s before) b k us
 arrived s before b k us h =
     let g : Bool = is_aps k in
     let front : List MessageBlock = h.front in
@@ -142,7 +142,7 @@ arrived s before b k us h =
           ∙ ap (λ (vs : List ℕ). tested_outcome (content k vs)) (sym split);
     }
 
-pub whole_found : (s : State) (before : List Call) (b : MessageBlock) (k : Kind) (us : List ℕ)
+pub whole_found : (s : CollectorState) (before : List CollectorCall) (b : MessageBlock) (k : Kind) (us : List ℕ)
     → length s.kept ≡ 7 → Completes before b k us → FoundWhole s before b k us
 whole_found s before b k us places h =
     let T : Tested (state_after s before) b k us = arrived s before b k us h.0 in
@@ -153,11 +153,11 @@ whole_found s before b k us places h =
     record {
       found = both.0;
       last = ap (last_of k) at ∙ both.1;
-      waits = λ d. ap (λ (x : State). x.question) at ∙ both.2 d;
+      waits = λ d. ap (λ (x : CollectorState). x.question) at ∙ both.2 d;
     }
 
 -- a message whose blocks have come in a row and leave another remainder
-pub corrupt_found : (s : State) (before : List Call) (b : MessageBlock) (k : Kind) (ws : List ℕ)
+pub corrupt_found : (s : CollectorState) (before : List CollectorCall) (b : MessageBlock) (k : Kind) (ws : List ℕ)
     → Arrives before b k ws → (crc12 (bits ws) ≡ 0 → ⊥) → (report_of (state_after s before) b).found ≡ Err WrongRemainder
 corrupt_found s before b k ws h bad =
     let S : State = state_after s before in
@@ -166,7 +166,7 @@ corrupt_found s before b k ws h bad =
     ∙ ap (λ (t : Bool). (cond t (report_basic b) (report_part k S b)).found) T.other
     ∙ ap found_of (T.next ∙ ap (λ (t : Bool). cond t (Whole (content k ws)) Corrupt) (ne_eqb (crc12 (bits ws)) 0 bad))
 
-pub change_found : (s : State) (before : List Call) (b : MessageBlock) (k : Kind) (us ws : List ℕ)
+pub change_found : (s : CollectorState) (before : List CollectorCall) (b : MessageBlock) (k : Kind) (us ws : List ℕ)
     → Arrives before b k ws → length us ≡ length ws → crc12 (bits us) ≡ 0
     → 0 < weight (xors (bits us) (bits ws)) → weight (xors (bits us) (bits ws)) ≤ 3
     → (report_of (state_after s before) b).found ≡ Err WrongRemainder
@@ -177,7 +177,7 @@ change_found s before b k us ws h l e lo hi =
     (length_bits us ∙ ap (λ (n : ℕ). 8 * n) l ∙ sym (length_bits ws))
     (omega (arith, length_bits us, l, h.long, few_blocks k)) e z lo hi)
 
-pub written_found : (s : State) (before : List Call) (front : List MessageBlock) (b : MessageBlock) (k : Kind) (vs : List ℕ)
+pub written_found : (s : CollectorState) (before : List CollectorCall) (front : List MessageBlock) (b : MessageBlock) (k : Kind) (vs : List ℕ)
     → length s.kept ≡ 7 → lawful k vs ≡ true → goes_to (is_aps k) b ≡ true
     → own (is_aps k) (before ++ give b ∷ []) ≡ front ++ reads_of (message_blocks k (filled_values vs))
     → FoundWhole s before b k (filled_values vs)

@@ -4,12 +4,12 @@ use Rattle.message.specs.declared.Kind.{Kind}
 use Rattle.message.specs.Kinds.{block_count_of}
 
 -- a message, or the part of it that has come: its kind and its value bytes
-pub record Content : Type 0 where
+pub record MessageContent : Type 0 where
   pub kind : Kind
   pub values : List ℕ
 
 -- fewer blocks have come than a message of its kind has, each with two value bytes
-pub record IsPart (u : Content) : Type 0 where
+pub record IsPart (u : MessageContent) : Type 0 where
   pub blocks : ℕ
   pub few : blocks < block_count_of u.kind
   pub long : length u.values ≡ 2 * blocks

@@ -3,13 +3,13 @@ use Rattle.std.specs.Prelude.{◌≡◌, ℕ, ◌*◌, List, length, None, Optio
 use Rattle.message.specs.declared.Kind.{Kind}
 use Rattle.message.specs.declared.Kind.TheVariants.{Basic, Aps, Cv, OneDm, TwoDmm, TwoDmr, Cs}
 use Rattle.message.specs.Kinds.{block_count_of}
-use Rattle.collector.specs.Content.{Content, IsPart}
+use Rattle.collector.specs.Content.{MessageContent, IsPart}
 
 -- the message that each collection has begun, if one; by kind, the message that came whole last; when the waiting question was sent
-pub record State : Type 0 where
-  pub aps : Option Content
-  pub low : Option Content
-  pub kept : List (Option Content)
+pub record CollectorState : Type 0 where
+  pub aps : Option MessageContent
+  pub low : Option MessageContent
+  pub kept : List (Option MessageContent)
   pub question : Option (List ℕ)
 
 -- where a kind's last message is kept
@@ -23,16 +23,16 @@ place_of TwoDmr = 5
 place_of Cs = 6
 
 -- the last whole message of a kind
-abbrev pub last_of : Kind → State → Option Content
+abbrev pub last_of : Kind → CollectorState → Option MessageContent
 last_of k s = slice_index_or s.kept (place_of k) None
 
 -- all value bytes of a message of kind k
-pub record IsFull (k : Kind) (m : Content) : Type 0 where
+pub record IsFull (k : Kind) (m : MessageContent) : Type 0 where
   pub kind : m.kind ≡ k
   pub long : length m.values ≡ 2 * block_count_of k
 
 -- What holds of every collector.
-pub record Sound (s : State) : Type 0 where
+pub record IsSoundState (s : CollectorState) : Type 0 where
   -- there is a place for each kind
   pub places : length s.kept ≡ 7
   -- a message that is collected lacks blocks

@@ -24,9 +24,9 @@ pub(crate) struct Unfinished {
 impl Model for Unfinished {
     ghost use Rattle.std.specs.Prelude.{◌≡◌, ◌*◌, ◌/◌, ◌<◌, length, take};
     ghost use Rattle.message.specs.Kinds.{block_count_of};
-    ghost use Rattle.collector.specs.Content.{Content, zero_padded};
+    ghost use Rattle.collector.specs.Content.{MessageContent, zero_padded};
 
-    ghost Value = { Content };
+    ghost Value = { MessageContent };
 
     ghost view = { λ u. record { kind = u.kind; values = take (2 * u.blocks) u.values } };
 
@@ -52,9 +52,9 @@ pub struct Message {
 impl Model for Message {
     ghost use Rattle.std.specs.Prelude.{◌≡◌, ◌*◌, take};
     ghost use Rattle.message.specs.Kinds.{block_count_of};
-    ghost use Rattle.collector.specs.Content.{Content, zero_padded};
+    ghost use Rattle.collector.specs.Content.{MessageContent, zero_padded};
 
-    ghost Value = { Content };
+    ghost Value = { MessageContent };
 
     ghost view = { λ m. record { kind = m.kind; values = take (2 * block_count_of m.kind) m.values } };
 

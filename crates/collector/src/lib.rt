@@ -8,7 +8,7 @@ ghost use Rattle.std.specs.Option.{option_map};
 ghost use Rattle.collector.specs.Faults.{message_fault_number, message_fault_of, message_fault_text, report_faults};
 ghost use Rattle.collector.specs.Laws.{CollectorLaws, FaultLaws, LatestLaws};
 ghost use Rattle.collector.specs.Content.{IsPart};
-ghost use Rattle.collector.specs.State.{IsFull, Sound, last_of, place_of};
+ghost use Rattle.collector.specs.State.{IsFull, IsSoundState, last_of, place_of};
 ghost use Rattle.collector.specs.Step.{after, after_basic, after_part, collection_of, new_state, report_basic, report_of, report_part, with_collection, with_last_whole, with_no_question};
 
 mod assembly;
@@ -75,13 +75,13 @@ pub struct Collector {
 }
 
 impl Model for Collector {
-    ghost use Rattle.collector.specs.State.{Sound, State};
+    ghost use Rattle.collector.specs.State.{CollectorState, IsSoundState};
 
-    ghost Value = { State };
+    ghost Value = { CollectorState };
 
     ghost view = { λ c. record { aps = c.aps; low = c.low; kept = c.kept; question = c.question } };
 
-    ghost invariant = { λ c. Sound (record { aps = c.aps; low = c.low; kept = c.kept; question = c.question }) };
+    ghost invariant = { λ c. IsSoundState (record { aps = c.aps; low = c.low; kept = c.kept; question = c.question }) };
 }
 
 // The place of a kind among the messages kept; an array by kind, since there is no heap here for a map.
@@ -143,7 +143,7 @@ impl Collector {
     /// A collector to which no block has come.
     pub fn new() -> Collector
         ensures state { result ≡ new_state }
-        ensures sound { Sound result }
+        ensures sound { IsSoundState result }
         ensures laws { CollectorLaws }
         ensures faults { FaultLaws }
         ensures latest { LatestLaws }
@@ -161,7 +161,7 @@ impl Collector {
     pub fn take(&mut self, block: MessageBlock) -> Report
         ensures state { self.new ≡ after self.old block }
         ensures report { result ≡ report_of self.old block }
-        ensures sound { Sound self.old }
+        ensures sound { IsSoundState self.old }
     {
         // names a field, so that what holds of every collector is known here
         let _ = &self.question;
@@ -176,7 +176,7 @@ impl Collector {
     pub fn last(&self, kind: Kind) -> Option<Message>
         ensures last { result ≡ last_of kind self.now }
         ensures full { IfSome result (IsFull kind) }
-        ensures sound { Sound self.now }
+        ensures sound { IsSoundState self.now }
     {
         let index = place(kind);
         self.kept[index]
@@ -188,7 +188,7 @@ impl Collector {
         ensures long { IfSome result (λ q. length q.time ≡ 8) }
         ensures open { IfSome result (λ q. IsFalse q.settled) }
         ensures state { self.new ≡ with_no_question self.old }
-        ensures sound { Sound self.old }
+        ensures sound { IsSoundState self.old }
     {
         let time = self.question.take()?;
         Some(Question::ask(time))

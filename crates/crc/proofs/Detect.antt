@@ -6,7 +6,7 @@ use Rattle.std.specs.Int.Count.{ones}
 use Rattle.std.proofs.Math.Pow.{pow-lt}
 use Rattle.bits.specs.Bits.{high_value}
 use Rattle.crc.specs.Remainder.{step, reduce, remainder_onto, remainder}
-use Rattle.crc.specs.Laws.{times, xors, weight, power, Detecting, Few, Burst, Detects}
+use Rattle.crc.specs.Laws.{times, xors, weight, power, IsDetecting, SeesFew, SeesBursts, Detects}
 use Rattle.crc.proofs.Laws.{onto_xor, onto-append, onto_parity, step_xor, step_zero, leading, shift_zero, back, xor_over, reduce_small, times_one}
 use Rattle.crc.proofs.Division.{length_xors}
 
@@ -27,7 +27,7 @@ no_bits (false ∷ bs) e = no_bits bs e
 zero_factor : (a b : ℕ) → 0 < b → a * b ≡ 0 → a ≡ 0
 zero_factor a b h e = eq_of_mul-eq-mul_right b h a 0 (e ∙ sym (zero-mul b))
 
-module _ (w G n : ℕ) (good : Detecting w G n) where
+module _ (w G n : ℕ) (good : IsDetecting w G n) where
   positive : 0 < w
   positive = go w good.degree
     where
@@ -126,10 +126,10 @@ module _ (w G n : ℕ) (good : Detecting w G n) where
       let e : 0 ≡ times b 1 * 2 ^ (w - length b) = back w G b (w - length b) 0 good.constant (omega arith) z in
       omega (arith, no_bits b (sym (times_one b) ∙ zero_factor (times b 1) (2 ^ (w - length b)) (pow_pos (w - length b)) (sym e)))
 
-  few : Few w G n
+  few : SeesFew w G n
   few s t l b p q h k = pattern (xors s t) h k (omega (arith, length_xors s t l)) (differ_zero s t l p q)
 
-  burst : Burst w G
+  burst : SeesBursts w G
   burst s t i k b l e lb wb p q =
       let z : remainder_onto w G 0 (b ++ replicate k false) ≡ 0 = sym (leading w G i (b ++ replicate k false)) ∙ ap (remainder w G) (sym e) ∙ differ_zero s t l p q in
       let z' : remainder_onto w G (remainder_onto w G 0 b) (replicate k false) ≡ 0 = sym (onto-append w G b (replicate k false) 0) ∙ z in

@@ -4,7 +4,7 @@ use Rattle.std.proofs.Math.Nat.{div-eq_of_lt, mul-div-mul_right}
 use Rattle.std.specs.Int.Bits.{bit_xor, xor_assoc, xor_self}
 use Rattle.std.proofs.lemmas.Nat.{xor_comm, xor_shr, xor_lt}
 use Rattle.crc.specs.Remainder.{scale}
-use Rattle.crc.specs.Laws.{times, Divided, xors, weight, DivisionLaws}
+use Rattle.crc.specs.Laws.{times, IsDivision, xors, weight, DivisionLaws}
 use Rattle.crc.proofs.Laws.{xor4, xor_over, scale_xor, onto_xor, leading, appended, only_appended, divides}
 
 pub length_xors : (s t : List Bool) → length s ≡ length t → length (xors s t) ≡ length s
@@ -58,7 +58,7 @@ none [] G h = refl
 none (true ∷ p) G h = absurd (omega arith)
 none (false ∷ p) G h = none p G h
 
-pub unique : (w G : ℕ) (bs : List Bool) (r s : ℕ) → G / 2 ^ w ≡ 1 → Divided w G bs r → Divided w G bs s → r ≡ s
+pub unique : (w G : ℕ) (bs : List Bool) (r s : ℕ) → G / 2 ^ w ≡ 1 → IsDivision w G bs r → IsDivision w G bs s → r ≡ s
 unique w G bs r s g a b =
     let p : List Bool = a.0 in
     let q : List Bool = b.0 in

@@ -2,7 +2,7 @@
 use Rattle.std.proofs.Common.{◌≡◌, ℕ, zero, suc, ◌+◌, ◌<◌, Bool, true, false, cond, T, eqb, sym, refl, ap, ◌∙◌, subst, add-zero, arith}
 use Rattle.std.specs.Int.Count.{ones, ones_in}
 use Rattle.crc.specs.Remainder.{step, reduce}
-use Rattle.crc.specs.Laws.{power, Detecting, Known}
+use Rattle.crc.specs.Laws.{power, IsDetecting, KnownRemainders}
 
 -- none of r, r x, .. r x ^ (m - 1) is 1
 unfoldable apart : ℕ → ℕ → ℕ → ℕ → Bool
@@ -30,14 +30,14 @@ order : (w G m k : ℕ) → T (apart w G (power w G 1) m) → 0 < k → k < suc 
 order w G m zero t h l e = absurd (omega arith)
 order w G m (suc k) t h l e = none w G 1 m k t (omega arith) (ap (power w G) (let s : 1 + k ≡ suc k = omega arith in s) ∙ e)
 
-pub seven : Detecting 7 0xB7 63
+pub seven : IsDetecting 7 0xB7 63
 unfolding ones ones_in step reduce apart
 seven = record { degree = refl; constant = refl; even = refl; order = λ k. order 7 0xB7 62 k tt }
 
-pub twelve : Detecting 12 0x180F 2047
+pub twelve : IsDetecting 12 0x180F 2047
 unfolding ones ones_in step reduce apart
 twelve = record { degree = refl; constant = refl; even = refl; order = λ k. order 12 0x180F 2046 k tt }
 
-pub known : Known
+pub known : KnownRemainders
 unfolding step reduce
 known = record { seven = refl; twelve = refl }

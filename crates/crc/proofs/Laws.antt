@@ -9,7 +9,7 @@ use Rattle.bits.specs.Bits.{odd, high_first, high_value}
 use Rattle.bits.proofs.Values.{high_value_is, value_lt}
 use Rattle.bits.proofs.Digits.{digit}
 use Rattle.crc.specs.Remainder.{scale, reduce, step, remainder_onto, remainder}
-use Rattle.crc.specs.Laws.{times, Divided, xorb, xors, weight}
+use Rattle.crc.specs.Laws.{times, IsDivision, xorb, xors, weight}
 
 -- ---- sums
 
@@ -315,7 +315,7 @@ divided w G (b ∷ bs) r = go (divided w G bs (step w G r b))
               ∙ sym (xor_assoc (scale (odd (u / 2 ^ w)) (G * 2 ^ length q)) (times q G) (remainder_onto w G S bs)),
         )
 
-pub divides : (w G : ℕ) (bs : List Bool) → G / 2 ^ w ≡ 1 → Divided w G bs (remainder w G bs)
+pub divides : (w G : ℕ) (bs : List Bool) → G / 2 ^ w ≡ 1 → IsDivision w G bs (remainder w G bs)
 divides w G bs g =
     let h = divided w G bs 0 in
     (h.0, h.1, onto_lt w G bs 0 g (pow_pos w), ap (λ (x : ℕ). bit_xor x (times bs (2 ^ w))) (sym (zero-mul (2 ^ length bs))) ∙ h.2)

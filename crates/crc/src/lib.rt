@@ -6,7 +6,7 @@
 
 ghost use Rattle.std.specs.Prelude.{◌≡◌, ℕ, ◌/◌, ◌^◌, ◌<◌};
 ghost use Rattle.bits.specs.Bits.{field};
-ghost use Rattle.crc.specs.Laws.{Detecting, Detects, DivisionLaws, Known};
+ghost use Rattle.crc.specs.Laws.{Detects, DivisionLaws, IsDetecting, KnownRemainders};
 ghost use Rattle.crc.specs.Remainder.{remainder as rest, step};
 
 /// A generator by its terms: the digit of weight 2^k is the coefficient of x^k, and the highest is that of x^degree.
@@ -82,13 +82,13 @@ impl Generator {
 #[tactic(auto, using(crate::proofs::Division::laws, crate::proofs::Generators::known))]
 pub fn laws_hold()
     ensures laws { (w G : ℕ) → G / 2 ^ w ≡ 1 → DivisionLaws w G }
-    ensures known { Known }
+    ensures known { KnownRemainders }
 {}
 
 /// Which changes no word hides, for every generator with an even number of terms and constant term 1: up to three bits in words that are
 /// not longer than the order of x, and any within as many neighbouring bits as the degree.
 pub fn detection_holds()
-    ensures { (w G n : ℕ) → Detecting w G n → Detects w G n }
+    ensures { (w G n : ℕ) → IsDetecting w G n → Detects w G n }
 {}
 
 #[cfg(test)]

@@ -13,7 +13,7 @@ use Rattle.block.specs.Fixed.{start_block}
 use Rattle.bits.specs.Splices.{splice}
 use Rattle.std.proofs.Math.Seq.{take-add}
 use Rattle.bits.proofs.Splices.{splice_next}
-use Rattle.frame.specs.Frames.{FrameRestored, Shaped, carried_by, frame_block, frame_of, carried_after, carried_after_all}
+use Rattle.frame.specs.Frames.{FrameRestored, IsFrameShape, carried_by, frame_block, frame_of, carried_after, carried_after_all}
 use Rattle.frame.proofs.Carried.{frame_data}
 use Rattle.frame.proofs.Storing.{stored_data}
 
@@ -33,7 +33,7 @@ pub frame_get : (F : List ℕ) (i : ℕ) → i < 992 → slice_get (frame_of F) 
 frame_get F i h =
     slice_get-get_or (frame_of F) i start_block (omega (arith, frame_length F)) ∙ ap (λ (b : Block). Some b) (frame_at F i start_block h)
 
-pub frame_shaped : (F : List ℕ) → Shaped (frame_of F)
+pub frame_shaped : (F : List ℕ) → IsFrameShape (frame_of F)
 frame_shaped F = record {
   many = frame_length F;
   opens = frame_get F 0 (omega arith);

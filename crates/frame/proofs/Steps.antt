@@ -16,7 +16,7 @@ use Rattle.block.proofs.Blocks.{same_block}
 use Rattle.block.proofs.Classes.{classes_told}
 use Rattle.bits.specs.Splices.{splice}
 use Rattle.bits.proofs.Splices.{splice_below, splice_same}
-use Rattle.frame.specs.Frames.{Shaped, frame_block, frame_of}
+use Rattle.frame.specs.Frames.{IsFrameShape, frame_block, frame_of}
 use Rattle.frame.specs.Steps.{ByBlocks, CarriedStored, Closes, Grows, InParts, Leaves, Opens}
 use Rattle.frame.proofs.Carried.{frame_data}
 use Rattle.frame.proofs.Frames.{frame_at, frame_length, stored_carried}
@@ -105,7 +105,7 @@ class_at bs i c d h e =
     let f : Some (class_of (get_or bs i d)) ≡ Some c = ap (option_map class_of) (sym (slice_get-get_or bs i d h)) ∙ e in
     cc
 
-parts : (bs : List Block) → Shaped bs → InParts bs
+parts : (bs : List Block) → IsFrameShape bs → InParts bs
 parts [] s = absurd (omega (arith, s.many))
 parts (b ∷ bs) s =
     let n : length bs ≡ 991 = omega (arith, s.many) in

@@ -46,7 +46,7 @@ abbrev pub with_data : ℕ → List ℕ → List ℕ → List ℕ
 with_data n bytes carried = if is_data_place n then splice (8 * (n - 2)) bytes carried else carried
 
 -- the shape of a frame: the start block, 990 data blocks, an end that carries seven bytes
-pub record Shaped (blocks : List Block) : Type 0 where
+pub record IsFrameShape (blocks : List Block) : Type 0 where
   pub many : length blocks ≡ frame_blocks
   pub opens : slice_get blocks 0 ≡ Some start_block
   pub data_blocks : (n : ℕ) → 1 ≤ n → n ≤ 990 → option_map class_of (slice_get blocks n) ≡ Some DataClass

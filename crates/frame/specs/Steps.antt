@@ -5,7 +5,7 @@ use Rattle.block.specs.declared.Block.{Block}
 use Rattle.block.specs.declared.Class.TheVariants.{Data, End}
 use Rattle.block.specs.Classes.{class_of}
 use Rattle.block.specs.Fixed.{start_block}
-use Rattle.frame.specs.Frames.{Shaped, carried_by, frame_block, frame_of, carried_after, carried_after_all}
+use Rattle.frame.specs.Frames.{IsFrameShape, carried_by, frame_block, frame_of, carried_after, carried_after_all}
 
 -- behind n blocks the next one is that of place n + 1
 abbrev pub Leaves : Type 0
@@ -45,4 +45,4 @@ pub record ByBlocks : Type 0 where
   pub grows : Grows
   pub closes : Closes
   pub carried : CarriedStored
-  pub parts : (blocks : List Block) → Shaped blocks → InParts blocks
+  pub parts : (blocks : List Block) → IsFrameShape blocks → InParts blocks

@@ -4,7 +4,7 @@
 #![tactic(auto)]
 
 ghost use Rattle.std.specs.Prelude.{◌≡◌, ◌+◌, ◌-◌, ◌*◌, ◌≤◌, ◌∷◌, ◌++◌, length, take, drop};
-ghost use Rattle.frame.specs.Frames.{FrameRestored, Shaped, carried_by, frame_block, frame_of, carried_after, with_data};
+ghost use Rattle.frame.specs.Frames.{FrameRestored, IsFrameShape, carried_after, carried_by, frame_block, frame_of, with_data};
 ghost use Rattle.frame.specs.Places.{IsPlace, is_data_place};
 ghost use Rattle.frame.specs.Steps.{ByBlocks};
 ghost use Rattle.frame.specs.SlotStarts.{SlotStarts, SlotsBeginThere, slot_start};
@@ -164,7 +164,7 @@ pub fn by_blocks()
 /// Writes the 992 blocks of the frame with this overhead and payload.
 pub fn assemble(overhead: &OverheadBytes, payload: &Payload, blocks: &mut [Block; 992])
     ensures made { blocks.new ≡ frame_of (overhead.now ++ payload.now) }
-    ensures shaped { Shaped blocks.new }
+    ensures shaped { IsFrameShape blocks.new }
     ensures undone { carried_by blocks.new ≡ overhead.now ++ payload.now }
 {
     for (i, block) in blocks.iter_mut().enumerate() {

@@ -7,7 +7,7 @@ use Rattle.block.specs.declared.Block.{Block}
 use Rattle.block.specs.declared.Sync.TheVariants.{Control}
 use Rattle.block.specs.Classes.{end_types}
 use Rattle.block.specs.Fixed.{idle_block}
-use Rattle.packet.specs.Format.{opening, block_count, HasBlocks, SixtyFourBytes, end_block, data_block, data_blocks, packet_blocks}
+use Rattle.packet.specs.Format.{opening_block, block_count, HasBlocks, SixtyFourBytes, end_block, data_block, data_blocks, packet_blocks}
 use Rattle.packet.specs.Answers.{over}
 
 -- an end as code makes it: eight zeros, then its type, then the bytes
@@ -62,35 +62,35 @@ front_more front out made n a m e l =
     ∙ sym (append_assoc front (a ∷ []) (drop (n + 1) out))
 
 -- the opening stands first
-pub opened : (out : List Block) → 0 < length out → set out 0 opening ≡ (opening ∷ data_blocks 0 []) ++ drop 1 (set out 0 opening)
+pub opened : (out : List Block) → 0 < length out → set out 0 opening_block ≡ (opening_block ∷ data_blocks 0 []) ++ drop 1 (set out 0 opening_block)
 unfolding data_blocks
 opened [] l = absurd (omega arith)
 opened (b ∷ out) l = refl
 
 -- the output behind the opening and n data blocks takes one more
-pub data_put : (n : ℕ) (p : List ℕ) (out made : List Block) (b : Block) → n + 1 < length out → made ≡ (opening ∷ data_blocks n p) ++ drop (n + 1) out → b ≡ data_block (take 8 (drop (8 * n) p)) → set made (n + 1) b ≡ (opening ∷ data_blocks (n + 1) p) ++ drop (n + 1 + 1) out
+pub data_put : (n : ℕ) (p : List ℕ) (out made : List Block) (b : Block) → n + 1 < length out → made ≡ (opening_block ∷ data_blocks n p) ++ drop (n + 1) out → b ≡ data_block (take 8 (drop (8 * n) p)) → set made (n + 1) b ≡ (opening_block ∷ data_blocks (n + 1) p) ++ drop (n + 1 + 1) out
 data_put n p out made b l m e =
-    front_more (opening ∷ data_blocks n p) out made (n + 1) b m (simp length_data_blocks (omega arith)) l
-    ∙ ap (λ (ds : List Block). (opening ∷ ds) ++ drop (n + 1 + 1) out) (rw e (sym (data_blocks_more n p)))
+    front_more (opening_block ∷ data_blocks n p) out made (n + 1) b m (simp length_data_blocks (omega arith)) l
+    ∙ ap (λ (ds : List Block). (opening_block ∷ ds) ++ drop (n + 1 + 1) out) (rw e (sym (data_blocks_more n p)))
 
 -- behind n data blocks, two more blocks
-ended : (n : ℕ) (ds out made : List Block) (e i : Block) → length ds ≡ n + 1 → n + 3 ≤ length out → made ≡ ds ++ drop (n + 1) (set out 0 opening) → set (set made (n + 1) e) (n + 2) i ≡ (ds ++ (e ∷ i ∷ [])) ++ drop (n + 3) out
+ended : (n : ℕ) (ds out made : List Block) (e i : Block) → length ds ≡ n + 1 → n + 3 ≤ length out → made ≡ ds ++ drop (n + 1) (set out 0 opening_block) → set (set made (n + 1) e) (n + 2) i ≡ (ds ++ (e ∷ i ∷ [])) ++ drop (n + 3) out
 ended n ds out made e i k l m =
-    let long : length (set out 0 opening) ≡ length out = length-set out 0 opening in
+    let long : length (set out 0 opening_block) ≡ length out = length-set out 0 opening_block in
     let two : n + 1 + 1 ≡ n + 2 = omega arith in
     let three : n + 2 + 1 ≡ n + 3 = omega arith in
-    let first = front_more ds (set out 0 opening) made (n + 1) e m k (omega arith) in
-    let second = front_more (ds ++ (e ∷ [])) (set out 0 opening) (set made (n + 1) e) (n + 2) i (rw two at first) (simp length-append (omega arith)) (omega arith) in
-    second ∙ rw (three, drop-set-lt (n + 3) out 0 opening (omega arith), append_assoc ds) refl
+    let first = front_more ds (set out 0 opening_block) made (n + 1) e m k (omega arith) in
+    let second = front_more (ds ++ (e ∷ [])) (set out 0 opening_block) (set made (n + 1) e) (n + 2) i (rw two at first) (simp length-append (omega arith)) (omega arith) in
+    second ∙ rw (three, drop-set-lt (n + 3) out 0 opening_block (omega arith), append_assoc ds) refl
 
-pub blocks_are : (p : List ℕ) → packet_blocks p ≡ opening ∷ (data_blocks (length p / 8) p ++ (end_block (drop (8 * (length p / 8)) p) ∷ idle_block ∷ []))
+pub blocks_are : (p : List ℕ) → packet_blocks p ≡ opening_block ∷ (data_blocks (length p / 8) p ++ (end_block (drop (8 * (length p / 8)) p) ∷ idle_block ∷ []))
 unfolding packet_blocks
 blocks_are p = refl
 
 -- behind all data blocks, the end and the idle complete the packet
-pub completed : (p : List ℕ) (out made : List Block) (e i : Block) → length p / 8 + 3 ≤ length out → made ≡ (opening ∷ data_blocks (length p / 8) p) ++ drop (length p / 8 + 1) (set out 0 opening) → e ≡ end_block (drop (8 * (length p / 8)) p) → i ≡ idle_block → set (set made (length p / 8 + 1) e) (length p / 8 + 2) i ≡ over (packet_blocks p) out
+pub completed : (p : List ℕ) (out made : List Block) (e i : Block) → length p / 8 + 3 ≤ length out → made ≡ (opening_block ∷ data_blocks (length p / 8) p) ++ drop (length p / 8 + 1) (set out 0 opening_block) → e ≡ end_block (drop (8 * (length p / 8)) p) → i ≡ idle_block → set (set made (length p / 8 + 1) e) (length p / 8 + 2) i ≡ over (packet_blocks p) out
 completed p out made e i l m f g =
-    rw (length_packet_blocks p, f, g, blocks_are p) (ended (length p / 8) (opening ∷ data_blocks (length p / 8) p) out made _ _ (simp length_data_blocks (omega arith)) l m)
+    rw (length_packet_blocks p, f, g, blocks_are p) (ended (length p / 8) (opening_block ∷ data_blocks (length p / 8) p) out made _ _ (simp length_data_blocks (omega arith)) l m)
 
 -- a block by its place
 nth_data : (n at : ℕ) (p : List ℕ) (behind : List Block) → at < n → slice_get (data_blocks n p ++ behind) at ≡ Some (data_block (take 8 (drop (8 * at) p)))
@@ -113,7 +113,7 @@ module _ (p : List ℕ) (place : ℕ) where
   behind : 0 < place → slice_get (packet_blocks p) place ≡ slice_get (data_blocks (length p / 8) p ++ (end_block (drop (8 * (length p / 8)) p) ∷ idle_block ∷ [])) (place - 1)
   behind l = let e : place ≡ suc (place - 1) = omega arith in ap (slice_get (packet_blocks p)) e ∙ rw (blocks_are p) refl
 
-  pub at_opening : place ≡ 0 → Some opening ≡ slice_get (packet_blocks p) place
+  pub at_opening : place ≡ 0 → Some opening_block ≡ slice_get (packet_blocks p) place
   at_opening e = rw (blocks_are p, e) refl
 
   pub at_data : 0 < place → place - 1 < length p / 8 → (b : Block) → b ≡ data_block (take 8 (drop (8 * (place - 1)) p)) → Some b ≡ slice_get (packet_blocks p) place

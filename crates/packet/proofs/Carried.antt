@@ -8,8 +8,8 @@ use Rattle.block.specs.declared.Class.{Class}
 use Rattle.block.specs.declared.Class.TheVariants.{Data, Idle, Characters, OrderedSet, Start, End, Unlawful}
 use Rattle.block.specs.Classes.{class_of}
 use Rattle.block.proofs.Classes.{classes_told}
-use Rattle.packet.specs.Format.{opening, is_packet_length}
-use Rattle.packet.specs.Reading.{Found, with_bytes_before, found_to_end, found_of_length}
+use Rattle.packet.specs.Format.{opening_block, is_packet_length}
+use Rattle.packet.specs.Reading.{FoundPacket, with_bytes_before, found_to_end, found_of_length}
 use Rattle.std.specs.Bool.{then_some}
 use Rattle.std.specs.Prelude.{MatchOption}
 use Rattle.packet.specs.declared.Extent.{Extent}
@@ -20,7 +20,7 @@ pub end_few : (b : Block) (n : ℕ) → End n ≡ class_of b → n < 8
 end_few b n e = ((classes_told b (End n)).0 (sym e)).1
 
 -- n blocks with these bytes in front
-abbrev pub shifted : List ℕ → ℕ → Found → Found
+abbrev pub shifted : List ℕ → ℕ → FoundPacket → FoundPacket
 shifted bytes n None = None
 shifted bytes n (Some found) = Some (bytes ++ found.0, n + found.1)
 
@@ -29,7 +29,7 @@ pub record Walked (bs : List Block) (n : ℕ) : Type 0 where
   pub is : found_to_end bs ≡ shifted (flat_map bytes_in (take n bs)) n (found_to_end (drop n bs))
   pub long : length (flat_map bytes_in (take n bs)) ≡ 8 * n
 
-shifted_prefixed : (xs ys : List ℕ) (n : ℕ) (f : Found) → shifted xs n (with_bytes_before ys f) ≡ shifted (xs ++ ys) (n + 1) f
+shifted_prefixed : (xs ys : List ℕ) (n : ℕ) (f : FoundPacket) → shifted xs n (with_bytes_before ys f) ≡ shifted (xs ++ ys) (n + 1) f
 shifted_prefixed xs ys n None = refl
 shifted_prefixed xs ys n (Some f) = rw (append_assoc, add_assoc) refl
 
@@ -57,11 +57,11 @@ ended : (bs : List Block) (n k : ℕ) (d : Block) → n < length bs → Walked b
 ended bs n k d l w e =
     w.is
     ∙ ap (shifted (flat_map bytes_in (take n bs)) n) (ap found_to_end (drop_more bs n d l) ∙ carried_end (get_or bs n d) (drop (n + 1) bs) k e)
-    ∙ ap (λ (b : Block). Some (flat_map bytes_in (take n bs) ++ take k (drop 1 b.bytes), n + 1)) (get_or_default bs n d opening l)
+    ∙ ap (λ (b : Block). Some (flat_map bytes_in (take n bs) ++ take k (drop 1 b.bytes), n + 1)) (get_or_default bs n d opening_block l)
 
 spanned_long : (bs : List Block) (n k : ℕ) (d : Block) → n < length bs → Walked bs n → length (get_or bs n d).bytes ≡ 8 → k < 8 → length (span_bytes bs n k) ≡ 8 * n + k
 spanned_long bs n k d l w g f =
-    let m : length (get_or bs n opening).bytes ≡ 8 = ap (λ (b : Block). length b.bytes) (get_or_default bs n opening d l) ∙ g in
+    let m : length (get_or bs n opening_block).bytes ≡ 8 = ap (λ (b : Block). length b.bytes) (get_or_default bs n opening_block d l) ∙ g in
     simp (length-append, length-take, length-drop) (omega (arith, w.long))
 
 sized_in : (p : List ℕ) (n used : ℕ) → length p ≡ n → true ≡ is_packet_length n → found_of_length (Some (p, used)) ≡ Some (p, used)
@@ -105,7 +105,7 @@ pub none_other : (bs : List Block) (n : ℕ) (d : Block) → n < length bs → W
 none_other bs n d l w f g =
     ap found_of_length (w.is ∙ ap (shifted (flat_map bytes_in (take n bs)) n) (ap found_to_end (drop_more bs n d l) ∙ carried_other (get_or bs n d) (drop (n + 1) bs) f g))
 
-sized_long : (xs : List ℕ) (n : ℕ) (f : Found) → 2000 < length xs → found_of_length (shifted xs n f) ≡ None
+sized_long : (xs : List ℕ) (n : ℕ) (f : FoundPacket) → 2000 < length xs → found_of_length (shifted xs n f) ≡ None
 sized_long xs n None l = refl
 sized_long xs n (Some f) l =
     let m : 2000 < length (xs ++ f.0) = simp length-append (omega arith) in

@@ -4,7 +4,7 @@ use borrow.Rule.Slice.PartMut.{put_mid}
 use Rattle.std.specs.List.{flat_map}
 use Rattle.std.proofs.lemmas.List.{take_at, drop_at, drop-drop, append_assoc, get_or_default}
 use Rattle.block.specs.declared.Block.{Block}
-use Rattle.packet.specs.Format.{opening}
+use Rattle.packet.specs.Format.{opening_block}
 use Rattle.packet.specs.Spans.{bytes_in, span_bytes}
 use Rattle.packet.proofs.Carried.{joined_next}
 
@@ -29,4 +29,4 @@ copied_more bs n k d made out part l s e g w = record {
 pub copied_end : (bs : List Block) (n k r : ℕ) (d : Block) (made out part : List ℕ) → n < length bs → k ≡ r → part ≡ take r (drop 1 (get_or bs n d).bytes) → Copied bs n made out → put_mid (8 * n) k made part ≡ span_bytes bs n r ++ drop (8 * n + r) out
 copied_end bs n k r d made out part l s e w =
     part_more (flat_map bytes_in (take n bs)) part out made (8 * n) k (8 * n + r) w.is w.long (omega arith)
-    ∙ ap (λ (xs : List ℕ). (flat_map bytes_in (take n bs) ++ xs) ++ drop (8 * n + r) out) (e ∙ ap (λ (b : Block). take r (drop 1 b.bytes)) (get_or_default bs n d opening l))
+    ∙ ap (λ (xs : List ℕ). (flat_map bytes_in (take n bs) ++ xs) ++ drop (8 * n + r) out) (e ∙ ap (λ (b : Block). take r (drop 1 b.bytes)) (get_or_default bs n d opening_block l))

@@ -4,7 +4,7 @@ use Rattle.block.specs.declared.Block.{Block}
 use Rattle.refusal.specs.declared.Refusal.{Refusal}
 use Rattle.refusal.specs.declared.Refusal.TheVariants.{PacketLength, NoPacket, OutputTooShort}
 use Rattle.packet.specs.Format.{is_packet_length, packet_blocks}
-use Rattle.packet.specs.Reading.{Found}
+use Rattle.packet.specs.Reading.{FoundPacket}
 
 -- an output with new entries at its front, the rest as before
 abbrev pub over : {A : Type 0} → List A → List A → List A
@@ -21,13 +21,13 @@ write_answer p places =
     if is_packet_length (length p) then (if nat_le (length (packet_blocks p)) places then Ok (length (packet_blocks p)) else Err OutputTooShort) else Err PacketLength
 
 -- the reader's answer for an output of so many places: the packet's length and the blocks used
-abbrev pub read_answer : Found → ℕ → Result (ℕ × ℕ) Refusal
+abbrev pub read_answer : FoundPacket → ℕ → Result (ℕ × ℕ) Refusal
 read_answer None places = Err NoPacket
 read_answer (Some found) places =
     if nat_le (length found.0) places then (Ok (length found.0, found.1)) else Err OutputTooShort
 
 -- the bytes found
-abbrev pub bytes_of : Found → List ℕ
+abbrev pub bytes_of : FoundPacket → List ℕ
 bytes_of None = []
 bytes_of (Some found) = found.0
 

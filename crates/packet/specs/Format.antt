@@ -10,8 +10,8 @@ abbrev pub is_packet_length : ℕ → Bool
 is_packet_length n = if nat_le 64 n then nat_le n 2000 else false
 
 -- the start block of a packet
-abbrev pub opening : Block
-opening = record { sync = Control; bytes = 0x78 ∷ 0x55 ∷ 0x55 ∷ 0x55 ∷ 0x55 ∷ 0x55 ∷ 0x55 ∷ 0xD5 ∷ [] }
+abbrev pub opening_block : Block
+opening_block = record { sync = Control; bytes = 0x78 ∷ 0x55 ∷ 0x55 ∷ 0x55 ∷ 0x55 ∷ 0x55 ∷ 0x55 ∷ 0xD5 ∷ [] }
 
 -- the end that carries fewer than eight bytes, padded with zeros
 unfoldable pub end_block : List ℕ → Block
@@ -30,7 +30,7 @@ data_blocks (suc n) bytes = data_block (take 8 bytes) ∷ data_blocks n (drop 8 
 unfoldable pub packet_blocks : List ℕ → List Block
 packet_blocks p =
     let whole : ℕ = length p / 8 in
-    opening ∷ (data_blocks whole p ++ (end_block (drop (8 * whole) p) ∷ idle_block ∷ []))
+    opening_block ∷ (data_blocks whole p ++ (end_block (drop (8 * whole) p) ∷ idle_block ∷ []))
 
 -- the blocks of a packet of so many bytes: the opening, one for each eight bytes, the end and the idle
 abbrev pub block_count : ℕ → ℕ

@@ -7,8 +7,8 @@ ghost use Rattle.std.specs.Prelude.{◌≡◌, ◌+◌, ◌*◌, ◌<◌, ◌≤
 ghost use Rattle.std.specs.List.{slice_get};
 ghost use Rattle.block.specs.Classes.{class_of};
 ghost use Rattle.packet.specs.Answers.{GivesBack, bytes_of, leaves, read_answer, write_answer};
-ghost use Rattle.packet.specs.Format.{HasBlocks, SixtyFourBytes, block_count, packet_blocks, data_block, end_block, is_packet_length};
-ghost use Rattle.packet.specs.Reading.{found_to_end, opens, packet_at, found_of_length};
+ghost use Rattle.packet.specs.Format.{HasBlocks, SixtyFourBytes, block_count, data_block, end_block, is_packet_length, packet_blocks};
+ghost use Rattle.packet.specs.Reading.{found_of_length, found_to_end, opens, packet_at};
 ghost use Rattle.packet.specs.Spans.{Spans, span_bytes};
 
 use block::{Block, Class, END_TYPES, Sync};

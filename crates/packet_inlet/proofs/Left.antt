@@ -6,7 +6,7 @@ use Rattle.std.proofs.lemmas.Bool.{cases_lt, eq-eqb}
 use Rattle.block.specs.declared.Block.{Block}
 use Rattle.port.specs.Model.{first_of, rest_of, lists_after_next}
 use Rattle.port.proofs.Lists.{by_client}
-use Rattle.packet.specs.Format.{opening, packet_blocks}
+use Rattle.packet.specs.Format.{opening_block, packet_blocks}
 use Rattle.packet.proofs.Blocks.{blocks_are}
 use Rattle.packet_inlet.specs.Packets.{packets_of, all_packet_blocks, are_lengths}
 use Rattle.packet_inlet.specs.Waiting.{only_for, new_answer}
@@ -56,7 +56,7 @@ all_none (n ∷ lengths) bytes e = absurd (omega arith)
 
 -- a packet opens
 module _ (lengths bytes : List ℕ) (d : ℕ) (l : 0 < length lengths) (packet rest : List ℕ) (p : packet ≡ take (get_or lengths 0 d) bytes) (b : rest ≡ drop (get_or lengths 0 d) bytes) where
-  opened : all_packet_blocks lengths bytes ≡ opening ∷ (drop 1 (packet_blocks packet) ++ all_packet_blocks (drop 1 lengths) rest)
+  opened : all_packet_blocks lengths bytes ≡ opening_block ∷ (drop 1 (packet_blocks packet) ++ all_packet_blocks (drop 1 lengths) rest)
   opened = all_more lengths bytes d l ∙ rw (sym p, sym b) (rw (blocks_are packet) refl)
 
   pub opened_first : (r : Option Block) → r ≡ slice_get (packet_blocks packet) 0 → r ≡ first_of (all_packet_blocks lengths bytes)

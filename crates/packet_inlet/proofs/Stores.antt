@@ -10,7 +10,7 @@ use Rattle.port.specs.Model.{Holding, Lists, updated_lists}
 use Rattle.packet.specs.Format.{packet_blocks, is_packet_length}
 use Rattle.packet_inlet.specs.Packets.{are_lengths, all_packet_blocks, packets_of}
 use Rattle.packet_inlet.specs.Waiting.{new_answer, only_for}
-use Rattle.port.specs.Runs.{AllMoved, NoneMoved, padded_blocks}
+use Rattle.port.specs.Runs.{MovesAll, MovesNone, padded_blocks}
 use Rattle.packet_inlet.specs.Stored.{PacketRefused, PacketStored}
 use Rattle.port.proofs.Lists.{updated_here}
 use Rattle.port.proofs.Padded.{fills_behind}
@@ -43,7 +43,7 @@ waits_at c p w q a =
 pub stored_by :
     (c n k : ℕ) (p ns : List ℕ) (f : Block) (w v : Lists) (h j : Holding) → is_packet_length (length p) ≡ true →
     ns ≡ length p ∷ [] → Ok w ≡ new_answer c ns p → length (packet_blocks p) ≡ n → k ≡ (n + 1) / 2 → f ≡ idle_block →
-    AllMoved c k f w v h j → PacketStored c p n h j
+    MovesAll c k f w v h j → PacketStored c p n h j
 stored_by c n k p ns f w v h j q only a count half idle moved =
     let here = waits_at c p w q (a ∙ ap (λ l. new_answer c l p) only) in
     let even : n + n % 2 ≡ 2 * k = omega arith in
@@ -58,7 +58,7 @@ stored_by c n k p ns f w v h j q only a count half idle moved =
 
 pub refused_by :
     (c n k : ℕ) (p : List ℕ) (e : Refusal) (w v : Lists) (h j : Holding) → is_packet_length (length p) ≡ true →
-    length (packet_blocks p) ≡ n → k ≡ (n + 1) / 2 → NoneMoved c k e w v h j → PacketRefused c p e h j
+    length (packet_blocks p) ≡ n → k ≡ (n + 1) / 2 → MovesNone c k e w v h j → PacketRefused c p e h j
 refused_by c n k p e w v h j q count half none = record {
   number = rw q none.number;
   full = λ _. rw count (omega (arith, none.full));

@@ -13,7 +13,7 @@ use Rattle.port.specs.Model.{Lists, updated_lists}
 use Rattle.packet.specs.Format.{packet_blocks}
 use Rattle.packet_text.specs.declared.PacketLine.{PacketLine}
 use Rattle.packet_text.specs.Hex.{hex_text}
-use Rattle.packet_text.specs.Lines.{line_form, line_text, line_answer}
+use Rattle.packet_text.specs.Lines.{packet_line_form, packet_line_text, line_answer}
 use Rattle.packet_text.proofs.Forms.{only_lines_read}
 use Rattle.packet_text.proofs.Hex.{bytes_of_text}
 use Rattle.packet_lines.specs.declared.LineError.{LineError}
@@ -26,20 +26,20 @@ use Rattle.packet_lines.specs.Reading.{IsReason, bad_or, blocks_brought, by_form
 use Rattle.packet_lines.proofs.Lines.{next_line}
 
 -- a line is longer than its packet
-packet_shorter : (line : List ℕ) (p : ℕ × List ℕ) → line_form line ≡ Some p → length p.1 ≤ length line
+packet_shorter : (line : List ℕ) (p : ℕ × List ℕ) → packet_line_form line ≡ Some p → length p.1 ≤ length line
 packet_shorter line p e =
     let is = only_lines_read line p.0 p.1 e in
     let hex = bytes_of_text p.1 is.1 in
-    let long : length line ≡ length (line_text p.0 p.1) = ap length is.2 in
+    let long : length line ≡ length (packet_line_text p.0 p.1) = ap length is.2 in
     let rest = length-append (hex_text p.1) (codes "\n") in
     let whole = length-append (decimal p.0) (codes " " ++ (hex_text p.1 ++ codes "\n")) in
     omega (arith, long, rest, whole, hex.1)
 
 -- an output as long as the line is long enough, so only the form is refused
-pub refused_by_form : (entries line : List ℕ) (n : ℕ) (cause : Refusal) → length line ≤ n → Err cause ≡ line_answer (line_form line) n → packet_of entries line ≡ Err (Refused cause)
-refused_by_form entries line n cause l e = go (line_form line) refl
+pub refused_by_form : (entries line : List ℕ) (n : ℕ) (cause : Refusal) → length line ≤ n → Err cause ≡ line_answer (packet_line_form line) n → packet_of entries line ≡ Err (Refused cause)
+refused_by_form entries line n cause l e = go (packet_line_form line) refl
   where
-    go : (o : Option (ℕ × List ℕ)) → line_form line ≡ o → packet_of entries line ≡ Err (Refused cause)
+    go : (o : Option (ℕ × List ℕ)) → packet_line_form line ≡ o → packet_of entries line ≡ Err (Refused cause)
     go None f =
         let r : Err cause ≡ line_answer None n = e ∙ ap (λ o. line_answer o n) f in
         let same : FormBroken ≡ cause = cc in

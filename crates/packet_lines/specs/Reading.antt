@@ -8,7 +8,7 @@ use Rattle.numbers.specs.Range.{checked_number}
 use Rattle.calendar.specs.Share.{slot_count}
 use Rattle.port.specs.Model.{Lists}
 use Rattle.packet.specs.Format.{packet_blocks, is_packet_length}
-use Rattle.packet_text.specs.Lines.{line_form}
+use Rattle.packet_text.specs.Lines.{packet_line_form}
 use Rattle.packet_lines.specs.declared.LineError.{LineError}
 use Rattle.packet_lines.specs.declared.LineError.TheVariants.{NoSlot, Refused}
 use Rattle.packet_lines.specs.declared.BadLine.{BadLine}
@@ -28,7 +28,7 @@ by_form entries (Some line) = by_client entries line.1 (checked_number line.0)
 
 -- the client and the packet of a line, by the calendar's entries, or why the line is not taken
 abbrev pub packet_of : List ℕ → List ℕ → Result (ℕ × List ℕ) LineError
-packet_of entries line = by_form entries (line_form line)
+packet_of entries line = by_form entries (packet_line_form line)
 
 abbrev pub bad_or : Result (ℕ × List ℕ) LineError → ℕ → Option BadLine → Option BadLine
 bad_or (Err error) n bad = Some (record { error = error; line = n })

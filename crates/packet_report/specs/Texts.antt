@@ -16,13 +16,13 @@ carried_text client bytes blocks back =
     counts_text client bytes blocks ++ (decimal (length back) ++ (codes " bytes " ++ (hex_text back ++ codes "\n")))
 
 -- the refused line's number and the cause's
-unfoldable pub refused_text : ℕ → Refusal → List ℕ
-refused_text line cause = codes "line " ++ (decimal line ++ (codes ": refused " ++ (decimal (number_of cause) ++ codes "\n")))
+unfoldable pub refused_line_text : ℕ → Refusal → List ℕ
+refused_line_text line cause = codes "line " ++ (decimal line ++ (codes ": refused " ++ (decimal (number_of cause) ++ codes "\n")))
 
 -- places that hold any printed line with so many bytes in it
-abbrev pub room_for : ℕ → ℕ
-room_for bytes = 128 + 2 * bytes
+abbrev pub report_room : ℕ → ℕ
+report_room bytes = 128 + 2 * bytes
 
 -- a printer's answer: the length of its text, if there are places for it
 abbrev pub print_answer : List ℕ → ℕ → ℕ → Result ℕ Refusal
-print_answer text bytes places = if nat_le (room_for bytes) places then Ok (length text) else Err OutputTooShort
+print_answer text bytes places = if nat_le (report_room bytes) places then Ok (length text) else Err OutputTooShort

@@ -1,13 +1,13 @@
 //! What is printed of packets, as bytes in memory that the caller lends: a line for a packet carried, and one for a refusal.
 //! Numbers are in decimal, and a packet's bytes in hexadecimal, two digits a byte in small letters.
-//! Main promise: the bytes written are those that the definition `carried_text`, or `refused_text`, gives; all others stay.
+//! Main promise: the bytes written are those that the definition `carried_text`, or `refused_line_text`, gives; all others stay.
 #![tactic(auto)]
 
 ghost use Rattle.std.specs.Prelude.{◌≡◌, ◌<◌, [], ◌∷◌, length, nat_le};
 ghost use Rattle.numbers.specs.Range.{IsOneTo480};
 ghost use Rattle.packet.specs.Answers.{leaves};
 ghost use Rattle.packet_text.specs.Hex.{hex_byte, hex_digit, hex_text};
-ghost use Rattle.packet_report.specs.Texts.{carried_text, counts_text, print_answer, refused_text, room_for};
+ghost use Rattle.packet_report.specs.Texts.{carried_text, counts_text, print_answer, refused_line_text, report_room};
 ghost use Rattle.text_out.specs.Wrote.{Writes};
 
 use numbers::ClientNumber;
@@ -52,7 +52,7 @@ fn put_counts(text: &mut TextOut<'_>, client: ClientNumber, bytes: usize, blocks
 
 // Are there places for a line with so many bytes in it?
 fn has_room(bytes: usize, places: usize) -> bool
-    ensures { result ≡ nat_le (room_for bytes) places }
+    ensures { result ≡ nat_le (report_room bytes) places }
 {
     places >= ROOM && (places - ROOM) / 2 >= bytes
 }
@@ -83,8 +83,8 @@ pub fn carried_line(
 /// Writes the line of a refused line, and answers how many bytes it has; refused with `OutputTooShort` where there are fewer than
 /// `ROOM` places.
 pub fn refused_line(line: usize, cause: Refusal, out: &mut [u8]) -> Result<usize, Refusal>
-    ensures answer { result ≡ print_answer (refused_text line cause) 0 (length out.old) }
-    ensures output { out.new ≡ leaves result (refused_text line cause) out.old }
+    ensures answer { result ≡ print_answer (refused_line_text line cause) 0 (length out.old) }
+    ensures output { out.new ≡ leaves result (refused_line_text line cause) out.old }
 {
     if !has_room(0, out.len()) {
         return Err(Refusal::OutputTooShort);

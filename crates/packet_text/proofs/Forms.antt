@@ -11,7 +11,7 @@ use Rattle.form.proofs.Numbers.{bind_at, bind_some, number_is, number_reads}
 use Rattle.form.proofs.Cuts.{ended_is, ended_push}
 use Rattle.form.proofs.Words.{after_append, after_is}
 use Rattle.packet_text.specs.Hex.{hex_bytes, hex_text, is_hex}
-use Rattle.packet_text.specs.Lines.{LinesRead, OnlyLinesRead, line_parts, line_text}
+use Rattle.packet_text.specs.Lines.{LinesRead, OnlyLinesRead, packet_line_parts, packet_line_text}
 use Rattle.packet_text.proofs.Hex.{bytes_of_text, hex_parts, hex_text_is}
 
 two_digits : (n : ℕ) → 10 ≤ n → n < 100 → decimal n ≡ (48 + n / 10) ∷ (48 + n % 10) ∷ []
@@ -55,16 +55,16 @@ pub lines_read : LinesRead
 lines_read c bs small all =
     let digits = hex_text bs in
     let rest = digits ++ (10 ∷ []) in
-    let parts : line_parts (line_text c bs) ≡ Some (c, digits) =
-    ap (λ t. line_parts (t ++ (32 ∷ rest))) (sym (same_decimal c small))
+    let parts : packet_line_parts (packet_line_text c bs) ≡ Some (c, digits) =
+    ap (λ t. packet_line_parts (t ++ (32 ∷ rest))) (sym (same_decimal c small))
     ∙ bind_at (number (lease.short_decimal c ++ (32 ∷ rest))) client_by (c, 32 ∷ rest) (number_reads 32 rest refl c small)
     ∙ bind_at (rest_after (codes " ") (32 ∷ rest)) (rest_by c) rest (after_append (codes " ") rest)
     ∙ bind_at (ended_text rest) (digits_by c) digits (ended_push digits 10)
     ∙ cond-true (is_hex digits) (Some (c, digits)) None (hex_text_is bs all) in
-    bind_at (line_parts (line_text c bs)) bytes_by (c, digits) parts ∙ ap (λ t. Some (c, t)) (bytes_of_text bs all).2
+    bind_at (packet_line_parts (packet_line_text c bs)) bytes_by (c, digits) parts ∙ ap (λ t. Some (c, t)) (bytes_of_text bs all).2
 
 -- a line's parts are the line
-parts_are : (xs : List ℕ) (q : ℕ × List ℕ) → line_parts xs ≡ Some q → (q.0 < 1000) × (is_hex q.1 ≡ true) × (xs ≡ decimal q.0 ++ (32 ∷ (q.1 ++ (10 ∷ []))))
+parts_are : (xs : List ℕ) (q : ℕ × List ℕ) → packet_line_parts xs ≡ Some q → (q.0 < 1000) × (is_hex q.1 ≡ true) × (xs ≡ decimal q.0 ++ (32 ∷ (q.1 ++ (10 ∷ []))))
 parts_are xs q e =
     let n = bind_some (number xs) client_by q e in
     let client : ℕ × List ℕ = n.0 in
@@ -83,7 +83,7 @@ parts_are xs q e =
 
 pub only_lines_read : OnlyLinesRead
 only_lines_read xs c bs e =
-    let p = bind_some (line_parts xs) bytes_by (c, bs) e in
+    let p = bind_some (packet_line_parts xs) bytes_by (c, bs) e in
     let q : ℕ × List ℕ = p.0 in
     let is = parts_are xs q p.1 in
     let hex = hex_parts q.1 is.1 in

@@ -7,7 +7,7 @@ ghost use Rattle.std.specs.Prelude.{◌≡◌, true, length};
 ghost use Rattle.form.specs.Reads.{Reads};
 ghost use Rattle.packet.specs.Answers.{leaves};
 ghost use Rattle.packet_text.specs.Hex.{all_hex, hex_bytes, is_hex, is_hex_digit};
-ghost use Rattle.packet_text.specs.Lines.{LinesRead, OnlyLinesRead, line_bytes, line_form, line_parts, length_answer, line_answer};
+ghost use Rattle.packet_text.specs.Lines.{LinesRead, OnlyLinesRead, length_answer, line_answer, packet_line_bytes, packet_line_form, packet_line_parts};
 
 pub use form::cut_line;
 use form::{FormError, line_text, number, word};
@@ -43,7 +43,7 @@ pub fn is_hex(text: &[u8]) -> bool
 
 // A line's client and the hexadecimal digits of its packet.
 fn parts(line: &[u8]) -> Result<(u16, &[u8]), FormError>
-    ensures { Reads (λ p. (p.0, p.1.now)) result (line_parts line.now) }
+    ensures { Reads (λ p. (p.0, p.1.now)) result (packet_line_parts line.now) }
 {
     let (client, rest) = number(line)?;
     let digits = line_text(word(rest, b" ")?).ok_or(FormError)?;
@@ -71,8 +71,8 @@ fn read_hex(digits: &[u8], out: &mut [u8]) -> Result<usize, Refusal>
 
 // Reads a line without the laws that `read_line` adds.
 fn read_parts(line: &[u8], out: &mut [u8]) -> Result<PacketLine, Refusal>
-    ensures answer { result ≡ line_answer (line_form line.now) (length out.old) }
-    ensures output { out.new ≡ leaves result (line_bytes (line_form line.now)) out.old }
+    ensures answer { result ≡ line_answer (packet_line_form line.now) (length out.old) }
+    ensures output { out.new ≡ leaves result (packet_line_bytes (packet_line_form line.now)) out.old }
 {
     let (client, digits) = parts(line)?;
     let length = read_hex(digits, out)?;
@@ -82,8 +82,8 @@ fn read_parts(line: &[u8], out: &mut [u8]) -> Result<PacketLine, Refusal>
 /// Reads a line as a client's packet, whose bytes go to the front of the output.
 #[tactic(auto, using(crate::proofs::Forms::lines_read))]
 pub fn read_line(line: &[u8], out: &mut [u8]) -> Result<PacketLine, Refusal>
-    ensures answer { result ≡ line_answer (line_form line.now) (length out.old) }
-    ensures output { out.new ≡ leaves result (line_bytes (line_form line.now)) out.old }
+    ensures answer { result ≡ line_answer (packet_line_form line.now) (length out.old) }
+    ensures output { out.new ≡ leaves result (packet_line_bytes (packet_line_form line.now)) out.old }
     ensures all { LinesRead }
     ensures only { OnlyLinesRead }
 {

@@ -7,17 +7,17 @@ use Rattle.block.specs.declared.Block.{Block}
 use Rattle.refusal.specs.declared.Refusal.{Refusal}
 use Rattle.refusal.specs.declared.Refusal.TheVariants.{OutputTooShort}
 use Rattle.packet.specs.Answers.{bytes_of, leaves, over, read_answer}
-use Rattle.packet.specs.Reading.{Found, packet_at}
+use Rattle.packet.specs.Reading.{FoundPacket, packet_at}
 use Rattle.packet_report.specs.Texts.{carried_text, print_answer}
 use Rattle.std.specs.Borrow.{GName}
 use Rattle.port.specs.Model.{Lists}
 use Rattle.port.specs.Runs.{without_first}
 use Rattle.packet_inlet.specs.declared.reader.PacketReader.{PacketReader}
 use Rattle.packet_inlet.specs.Reader.{ReaderContents, blocks_in_reach, held_blocks, reader_contents, reader_places}
-use Rattle.packets.specs.Carried.{Carried, carried_answer, places_taken}
+use Rattle.packets.specs.Carried.{CarriesPacket, carried_answer, places_taken}
 
 -- a packet that is read has room
-pub read_is : (found : Found) (places read used : ℕ) → Ok (read, used) ≡ read_answer found places → (read ≡ length (bytes_of found)) × (read ≤ places)
+pub read_is : (found : FoundPacket) (places read used : ℕ) → Ok (read, used) ≡ read_answer found places → (read ≡ length (bytes_of found)) × (read ≤ places)
 read_is None places read used e = absurd (let z : ◌≡◌ {A = ℕ} 0 1 = cc in omega arith)
 read_is (Some found) places read used e =
     elim (cases_Bool (leb (length found.0) places)) [
@@ -32,12 +32,12 @@ read_is (Some found) places read used e =
     ]
 
 -- and is printed as it was found
-pub read_back : (found : Found) (read used : ℕ) (back zeros : List ℕ) → Ok (read, used) ≡ read_answer found 2000 → back ≡ over (bytes_of found) zeros → take read back ≡ bytes_of found
+pub read_back : (found : FoundPacket) (read used : ℕ) (back zeros : List ℕ) → Ok (read, used) ≡ read_answer found 2000 → back ≡ over (bytes_of found) zeros → take read back ≡ bytes_of found
 read_back found read used back zeros e is =
     rw ((read_is found 2000 read used e).0, is) (take-append_seam (bytes_of found) (drop (length (bytes_of found)) zeros))
 
 pub printed :
-    (client bytes count places : ℕ) (found : Found) (read used : ℕ) → Ok (read, used) ≡ read_answer found 2000 →
+    (client bytes count places : ℕ) (found : FoundPacket) (read used : ℕ) → Ok (read, used) ≡ read_answer found 2000 →
     print_answer (carried_text client bytes count (bytes_of found)) (length (bytes_of found)) places ≡ carried_answer client bytes count found places
 printed client bytes count places None read used e = absurd (let z : ◌≡◌ {A = ℕ} 0 1 = cc in omega arith)
 printed client bytes count places (Some found) read used e =
@@ -67,7 +67,7 @@ pub carried_by :
     Ok (read, used) ≡ read_answer (packet_at blocks) 2000 → back ≡ over (bytes_of (packet_at blocks)) zeros →
     r ≡ print_answer (carried_text client bytes count (take end back)) (length (take end back)) (length out) →
     now ≡ leaves r (carried_text client bytes count (take end back)) out →
-    Carried client bytes count waits left r out now
+    CarriesPacket client bytes count waits left r out now
 carried_by {waits} {left} {client} {bytes} {count} {n} {read} {used} {end} {blocks} {back} {out} {now} {r} zeros last many rest took read_as left_as answer output =
     let found = packet_at blocks in
     let packet : take end back ≡ bytes_of found = ap (λ k. take k back) last ∙ read_back found read used back zeros read_as left_as in
@@ -85,7 +85,7 @@ carried_by {waits} {left} {client} {bytes} {count} {n} {read} {used} {end} {bloc
           ∙ ap (λ bs. leaves r (carried_text client bytes count (bytes_of (packet_at bs))) out) blocks_are;
     }
 
-not_read : (client bytes count places : ℕ) (found : Found) (e : Refusal) → Err e ≡ read_answer found 2000 → Err e ≡ carried_answer client bytes count found places
+not_read : (client bytes count places : ℕ) (found : FoundPacket) (e : Refusal) → Err e ≡ read_answer found 2000 → Err e ≡ carried_answer client bytes count found places
 not_read client bytes count places None e q = cc
 not_read client bytes count places (Some found) e q =
     elim (cases_Bool (leb (length found.0) 2000)) [
@@ -102,7 +102,7 @@ not_read client bytes count places (Some found) e q =
 pub refused_by :
     {waits left : ℕ → List Block} {client bytes count n : ℕ} {blocks : List Block} {out : List ℕ} {e : Refusal} →
     n ≡ places_taken count → left ≡ without_first n client waits → blocks ≡ take n (waits client) →
-    Err e ≡ read_answer (packet_at blocks) 2000 → Carried client bytes count waits left (Err e) out out
+    Err e ≡ read_answer (packet_at blocks) 2000 → CarriesPacket client bytes count waits left (Err e) out out
 refused_by {waits} {left} {client} {bytes} {count} {n} {blocks} {out} {e} many rest took read_as = record {
   left = rest ∙ ap (λ k. without_first k client waits) many;
   answer = not_read client bytes count (length out) (packet_at blocks) e read_as ∙ ap (λ bs. carried_answer client bytes count (packet_at bs) (length out)) (took ∙ ap (λ k. take k (waits client)) many);

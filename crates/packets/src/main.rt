@@ -5,8 +5,8 @@
 #![tactic(auto)]
 
 ghost use Rattle.std.specs.Prelude.{◌≤◌, IfErr, IfOk, length, take};
-ghost use Rattle.packet_text.specs.Lines.{line_form};
-ghost use Rattle.packets.specs.Carried.{LineCarried, LineRead, LineRefused, LineStored};
+ghost use Rattle.packet_text.specs.Lines.{packet_line_form};
+ghost use Rattle.packets.specs.Carried.{CarriesLine, LineRead, LineRefused, StoresLine};
 
 use block::Block;
 use numbers::ClientNumber;
@@ -85,9 +85,9 @@ struct Stored<'a> {
 // the packet that is read back in `carry_line` is: both readers write into lent places. A `Vec` would be filled with as many zeros first,
 // and cut off behind; and each line could then run out of memory.
 fn read_packet(line: &[u8], bytes: &mut [u8; BYTES]) -> Result<(ClientNumber, usize), Refusal>
-    ensures read { IfOk result (λ p. LineRead (line_form line.now) p.0 (take p.1 bytes.new)) }
+    ensures read { IfOk result (λ p. LineRead (packet_line_form line.now) p.0 (take p.1 bytes.new)) }
     ensures within { IfOk result (λ p. p.1 ≤ length bytes.new) }
-    ensures refused { IfErr result (LineRefused (line_form line.now)) }
+    ensures refused { IfErr result (LineRefused (packet_line_form line.now)) }
 {
     let read = packet_text::read_line(line, bytes)?;
     let client = ClientNumber::try_from(read.client)?;
@@ -96,7 +96,7 @@ fn read_packet(line: &[u8], bytes: &mut [u8; BYTES]) -> Result<(ClientNumber, us
 
 // Puts the packet of a line into the store, and answers how many blocks it has.
 fn store_line<O: Outlet>(line: &[u8], outlet: &mut O) -> Result<usize, Refusal>
-    ensures { LineStored (line_form line.now) result (O.holding outlet.old) (O.holding outlet.new) }
+    ensures { StoresLine (packet_line_form line.now) result (O.holding outlet.old) (O.holding outlet.new) }
 {
     let mut bytes = [0; BYTES];
     let (client, length) = read_packet(line, &mut bytes)?;
@@ -105,7 +105,7 @@ fn store_line<O: Outlet>(line: &[u8], outlet: &mut O) -> Result<usize, Refusal>
 
 // Takes the packet of a line out of the store again, and writes what is printed of it.
 fn carry_line<I: Inlet>(stored: Stored<'_>, inlet: &mut I, out: &mut [u8]) -> Result<usize, Refusal>
-    ensures { LineCarried (line_form stored.entry.line.now) stored.entry.blocks (I.waiting inlet.old) (I.waiting inlet.new) result out.old out.new }
+    ensures { CarriesLine (packet_line_form stored.entry.line.now) stored.entry.blocks (I.waiting inlet.old) (I.waiting inlet.new) result out.old out.new }
 {
     let count = stored.blocks?;
     let (client, length) = read_packet(stored.line, &mut [0; BYTES])?;

@@ -4,11 +4,11 @@ use Rattle.std.proofs.lemmas.List.{append_assoc, append-nil, take_all, take_more
 use Rattle.block.specs.declared.Block.{Block}
 use Rattle.port.specs.Model.{PutAccepted, Holding, Lists, first_of, rest_of, lists_after_next, pair_blocks, updated_lists}
 use Rattle.port.specs.Pairs.{first_pair, lists_after_pair, or_filler}
-use Rattle.port.specs.Runs.{AllMoved, padded_blocks, without_first}
+use Rattle.port.specs.Runs.{MovesAll, padded_blocks, without_first}
 use Rattle.port.proofs.Lists.{updated_again, updated_here, updated_same}
 use Rattle.port.proofs.Padded.{padded_more, padded_pair, rest_more}
 
-pub moved_none : (c : ℕ) (f : Block) (w : Lists) (h : Holding) → AllMoved c 0 f w w h h
+pub moved_none : (c : ℕ) (f : Block) (w : Lists) (h : Holding) → MovesAll c 0 f w w h h
 unfolding padded_blocks
 moved_none c f w h = record {
   taken = sym (updated_same w c);
@@ -40,8 +40,8 @@ rest_pair n l =
 
 -- one pair more
 pub moved_more :
-    (c n : ℕ) (f : Block) (w v u : Lists) (h i j : Holding) → AllMoved c n f w v h i → u ≡ lists_after_pair c v →
-    PutAccepted c (first_pair f (v c)) i j → AllMoved c (n + 1) f w u h j
+    (c n : ℕ) (f : Block) (w v u : Lists) (h i j : Holding) → MovesAll c n f w v h i → u ≡ lists_after_pair c v →
+    PutAccepted c (first_pair f (v c)) i j → MovesAll c (n + 1) f w u h j
 moved_more c n f w v u h i j one left put =
     let here : v c ≡ drop (2 * n) (w c) = here_is c (2 * n) w v one.taken in
     let front : i.held c ≡ h.held c ++ padded_blocks f (2 * n) (w c) = ap (λ (k : Lists). k c) one.appended ∙ updated_here h.held c (h.held c ++ padded_blocks f (2 * n) (w c)) in
@@ -65,7 +65,7 @@ moved_more c n f w v u h i j one left put =
       places = omega (arith, put.places, one.places);
     }
 
-pub moved_all : (c n m : ℕ) (f : Block) (w v : Lists) (h i : Holding) → n ≡ m → AllMoved c n f w v h i → AllMoved c m f w v h i
+pub moved_all : (c n m : ℕ) (f : Block) (w v : Lists) (h i : Holding) → n ≡ m → MovesAll c n f w v h i → MovesAll c m f w v h i
 moved_all c n m f w v h i e all = rw e at all
 
 -- the first n blocks taken, n places of the output filled

@@ -16,22 +16,22 @@ abbrev pub without_first : ℕ → ℕ → Lists → Lists
 without_first n c lists = updated_lists lists c (drop n (lists c))
 
 -- n pairs moved for client c: what waits after, and what is held after
-pub record AllMoved (c n : ℕ) (filler : Block) (from left : Lists) (before after : Holding) : Type 0 where
+pub record MovesAll (c n : ℕ) (filler : Block) (from left : Lists) (before after : Holding) : Type 0 where
   pub taken : left ≡ without_first (2 * n) c from
   pub appended : after.held ≡ updated_lists before.held c (before.held c ++ padded_blocks filler (2 * n) (from c))
   pub places : after.free c + 2 * n ≡ before.free c
 
 -- a move of n pairs refused: the places are not free, and nothing changes
-pub record NoneMoved (c n : ℕ) (cause : Refusal) (from left : Lists) (before after : Holding) : Type 0 where
+pub record MovesNone (c n : ℕ) (cause : Refusal) (from left : Lists) (before after : Holding) : Type 0 where
   pub full : before.free c < 2 * n
   pub number : cause ≡ NoFreePlace
   pub waits : left ≡ from
   pub same : after ≡ before
 
 -- a move of n pairs, by its answer
-abbrev pub Moved : ℕ → ℕ → Block → Answer → Lists → Lists → Holding → Holding → Type 0
-Moved c n filler (Ok _) from left before after = AllMoved c n filler from left before after
-Moved c n filler (Err cause) from left before after = NoneMoved c n cause from left before after
+abbrev pub MovesPairs : ℕ → ℕ → Block → Answer → Lists → Lists → Holding → Holding → Type 0
+MovesPairs c n filler (Ok _) from left before after = MovesAll c n filler from left before after
+MovesPairs c n filler (Err cause) from left before after = MovesNone c n cause from left before after
 
 -- A list that n places hold is given whole, and the filler fills the places behind it.
 abbrev pub FillsBehind : Type 0

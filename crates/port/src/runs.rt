@@ -3,7 +3,7 @@
 ghost use Rattle.std.specs.Prelude.{◌≡◌, length};
 ghost use Rattle.port.specs.Model.{Put};
 ghost use Rattle.port.specs.Pairs.{first_pair, lists_after_pair, lists_left_by};
-ghost use Rattle.port.specs.Runs.{FillsBehind, Moved, padded_blocks, without_first};
+ghost use Rattle.port.specs.Runs.{FillsBehind, MovesPairs, padded_blocks, without_first};
 
 use crate::{Inlet, Outlet};
 use block::{Block, Pair};
@@ -47,7 +47,7 @@ pub fn move_pairs<I: Inlet, O: Outlet>(
     pairs: usize,
     filler: Block,
 ) -> Result<(), Refusal>
-    ensures moved { Moved client pairs filler result (I.waiting inlet.old) (I.waiting inlet.new) (O.holding outlet.old) (O.holding outlet.new) }
+    ensures moved { MovesPairs client pairs filler result (I.waiting inlet.old) (I.waiting inlet.new) (O.holding outlet.old) (O.holding outlet.new) }
     ensures filled { FillsBehind }
 {
     if outlet.free(client) / 2 < pairs {

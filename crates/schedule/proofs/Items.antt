@@ -2,7 +2,7 @@
 use Rattle.std.proofs.Common.{◌≡◌, ℕ, ◌+◌, ◌-◌, ◌*◌, ◌/◌, ◌%◌, ◌<◌, ◌≤◌, ◌≢◌, ◌⊎◌, inl, inr, refl, ap, ◌∙◌, arith}
 use Rattle.std.proofs.lemmas.Bool.{eq-eqb, ne_eqb, le-leb, lt-leb, cases_eq, cases_lt}
 use Rattle.schedule.specs.declared.Item.TheVariants.{Frame, Idle, Basic, Protection, Verification, ClientSignal, Delay, Spare}
-use Rattle.schedule.specs.Cycle.{item_at, item_in, mark_of, low_priority, opportunity_number}
+use Rattle.schedule.specs.Cycle.{item_at, item_in, basic_mark, low_priority, opportunity_number}
 
 pub item_in_place : (c p : ℕ) → p < 65 → item_at (65 * c + p) ≡ item_in c p
 unfolding item_at
@@ -51,7 +51,7 @@ spare_low n h =
 -- what stands at item i, with its place
 pub data At (i : ℕ) : Type 0 where
   a_frame : i % 65 % 2 ≡ 0 → item_at i ≡ Frame → At i
-  a_basic : i % 65 ≡ 1 → item_at i ≡ Basic (mark_of (i / 65)) → At i
+  a_basic : i % 65 ≡ 1 → item_at i ≡ Basic (basic_mark (i / 65)) → At i
   an_idle : i % 65 % 2 ≡ 1 → item_at i ≡ Idle → At i
   a_protection : i % 65 ≡ 35 → i / 65 % 2 ≡ 0 → item_at i ≡ Protection → At i
   a_verification : i % 65 ≡ 35 → i / 65 % 2 ≡ 1 → opportunity_number (i / 65) ≤ 17 → item_at i ≡ Verification (opportunity_number (i / 65) - 1) → At i
@@ -64,7 +64,7 @@ module _ (i : ℕ) where
   unfolding item_at
   at_frame h = frame_in (i / 65) (i % 65) h
 
-  pub at_basic : i % 65 ≡ 1 → item_at i ≡ Basic (mark_of (i / 65))
+  pub at_basic : i % 65 ≡ 1 → item_at i ≡ Basic (basic_mark (i / 65))
   unfolding item_at
   at_basic h = ap (item_in (i / 65)) h
 

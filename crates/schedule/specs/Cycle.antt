@@ -15,8 +15,8 @@ abbrev pub is_protection_cycle : ℕ → Bool
 is_protection_cycle cycle = cycle % 2 == 0
 
 -- the basic message has the start mark before a protection opportunity, and the end mark before a low priority one
-abbrev pub mark_of : ℕ → Mark
-mark_of cycle = if is_protection_cycle cycle then Start else End
+abbrev pub basic_mark : ℕ → Mark
+basic_mark cycle = if is_protection_cycle cycle then Start else End
 
 -- low priority opportunities count round from 1 to 64
 abbrev pub opportunity_number : ℕ → ℕ
@@ -37,7 +37,7 @@ opportunity cycle = if is_protection_cycle cycle then Protection else low_priori
 abbrev pub item_in : ℕ → ℕ → Item
 item_in cycle place =
     if place % 2 == 0 then Frame
-    else if place == 1 then Basic (mark_of cycle)
+    else if place == 1 then Basic (basic_mark cycle)
     else if place == 35 then opportunity cycle
     else Idle
 

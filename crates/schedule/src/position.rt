@@ -1,7 +1,7 @@
 //! A position in a sender's life: the cycle and the place in it, which come round after 128 cycles.
 
 ghost use Rattle.std.specs.Prelude.{◌≡◌, ◌<◌, ◌≤◌};
-ghost use Rattle.schedule.specs.Cycle.{BlockInRange, item_at, item_in, low_priority, mark_of, next_position, opportunity, round_items};
+ghost use Rattle.schedule.specs.Cycle.{BlockInRange, basic_mark, item_at, item_in, low_priority, next_position, opportunity, round_items};
 
 use crate::Item;
 use message::Mark;
@@ -83,7 +83,7 @@ fn item_in(cycle: u8, place: u8) -> Item
 
 // The mark of a cycle's basic message: the start mark before a protection opportunity.
 fn mark(cycle: u8) -> Mark
-    ensures { result ≡ mark_of cycle }
+    ensures { result ≡ basic_mark cycle }
 {
     match cycle % 2 {
         0 => Mark::Start,

@@ -5,7 +5,7 @@ use Rattle.schedule.specs.Cycle.{item_at, is_frame, frames_before, next_position
 use Rattle.schedule.proofs.Counts.{comes_again, frame_even, frame_odd, frames_more, frames_same}
 use Rattle.schedule.proofs.Items.{view}
 use Rattle.numbers.specs.Walk.{next_frame_number}
-use Rattle.sending.specs.Sender.{Made, SenderState, SendResult, new_sender_state, frame_result}
+use Rattle.sending.specs.Sender.{SenderSetup, SenderState, SendResult, new_sender_state, frame_result}
 use Rattle.sending.proofs.Steps.{Gapped, Kept}
 
 pub record Counted (s : SenderState) (n : ℕ) : Type 0 where
@@ -25,7 +25,7 @@ next_of p n h = omega arith
 number_of : (p x : ℕ) → p ≡ x % 480 → next_frame_number p ≡ (x + 1) % 480
 number_of p x h = omega arith
 
-pub counted_frame : (m : Made) (s : SenderState) (w : Lists) (n : ℕ) → Counted s n → is_frame (item_at s.position) ≡ true → Counted (frame_result m s w).state (n + 1)
+pub counted_frame : (m : SenderSetup) (s : SenderState) (w : Lists) (n : ℕ) → Counted s n → is_frame (item_at s.position) ≡ true → Counted (frame_result m s w).state (n + 1)
 unfolding frame_result
 counted_frame m s w n h t = record {
   position = next_of s.position n h.position;

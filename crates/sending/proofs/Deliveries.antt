@@ -16,7 +16,7 @@ use Rattle.sending.specs.Messages.{same_sort}
 use Rattle.waiting.specs.Messages.{MessageToSend, message_to_send, WaitingMessage, nothing_waits, waits, next_block, with_one_gone}
 use Rattle.waiting.specs.declared.Sort.{Sort}
 use Rattle.waiting.specs.declared.Sort.TheVariants.{Delay as delays, Protection as protections}
-use Rattle.sending.specs.Sender.{Made, SenderState, new_sender_state, gap_result, own_result, item_result, send_result_by, frame_due, waiting_of, with_waiting, state_with, accepted_message}
+use Rattle.sending.specs.Sender.{SenderSetup, SenderState, new_sender_state, gap_result, own_result, item_result, send_result_by, frame_due, waiting_of, with_waiting, state_with, accepted_message}
 use Rattle.sending.specs.Life.{Life, LineItem, frame, gap, made, followed, send, leave, state_of, items_begun_by, items}
 use Rattle.sending.specs.MessageLaws.{opportunity_item, is_opportunity, first_start, BlockAt, in_a_row, found_at_item, found_on_line, LeftMessage, message_left, messages_left, whole_messages, MessagesOnTime, MessagesSent}
 use Rattle.sending.proofs.Codes.{IsSound, to_send_sound, idle_idle, message_no_idle}
@@ -96,7 +96,7 @@ block_by : (s : SenderState) (w : Lists) (t : Bool) (b : Block) (d e : WaitingMe
 block_by s w true b d e = refl
 block_by s w false b d e = refl
 
-opportunity_block : (q : Sort) (m : Made) (s : SenderState) (w : Lists) (x : Item) → is_opportunity q x ≡ true → (item_result m s w x).block ≡ cond (goes q x (waiting_of s q)) (next_block (waiting_of s q)) idle_block
+opportunity_block : (q : Sort) (m : SenderSetup) (s : SenderState) (w : Lists) (x : Item) → is_opportunity q x ≡ true → (item_result m s w x).block ≡ cond (goes q x (waiting_of s q)) (next_block (waiting_of s q)) idle_block
 unfolding item_result
 opportunity_block delays m s w (Delay j) e = block_by s w _ (next_block s.left.delay) (with_one_gone s.left.delay) s.left.protection
 opportunity_block delays m s w FrameItem e = absurd (both_ways false refl e)
@@ -119,7 +119,7 @@ opportunity_block protections m s w Spare e = absurd (both_ways false refl e)
 abbrev now : ℕ → WaitingMessage → Bool → List BlockAt
 now n d t = cond t (record { item = n; block = next_block d } ∷ []) []
 
-module _ (q : Sort) (m : Made) (s : SenderState) (w : Lists) (n : ℕ) (c : Counted s n) (u : Sound s) where
+module _ (q : Sort) (m : SenderSetup) (s : SenderState) (w : Lists) (n : ℕ) (c : Counted s n) (u : Sound s) where
   found_gap : found_at_item q n (gap (item_result m s w (item_at s.position)).block) ≡ now n (waiting_of s q) (goes q (item_at n) (waiting_of s q))
   found_gap = go (is_opportunity q (item_at n)) (goes q (item_at n) (waiting_of s q)) refl refl
     where
@@ -237,7 +237,7 @@ waiting_more : (s : SenderState) (rest : List Block) (q : Sort) → waiting_of (
 waiting_more s rest delays = refl
 waiting_more s rest protections = refl
 
-module _ (q : Sort) (m : Made) (s : SenderState) (w : Lists) (is : List LineItem) (lefts : List LeftMessage) (st : Standing m s is) (h : Delivering q (waiting_of s q) (length is) (found_on_line q 0 is) lefts) where
+module _ (q : Sort) (m : SenderSetup) (s : SenderState) (w : Lists) (is : List LineItem) (lefts : List LeftMessage) (st : Standing m s is) (h : Delivering q (waiting_of s q) (length is) (found_on_line q 0 is) lefts) where
   After : LineItem → Type 0
   After x = Delivering q (waiting_of (item_result m s w (item_at s.position)).state q) (length (is ++ (x ∷ []))) (found_on_line q 0 (is ++ (x ∷ []))) lefts
 
@@ -316,7 +316,7 @@ fresh_waits : (q : Sort) → waiting_of new_sender_state q ≡ nothing_waits
 fresh_waits delays = refl
 fresh_waits protections = refl
 
-pub delivering : (q : Sort) (m : Made) (l : Life) → Delivering q (waiting_of (state_of m l) q) (length (items m l)) (found_on_line q 0 (items m l)) (messages_left q m l)
+pub delivering : (q : Sort) (m : SenderSetup) (l : Life) → Delivering q (waiting_of (state_of m l) q) (length (items m l)) (found_on_line q 0 (items m l)) (messages_left q m l)
 unfolding state_of items messages_left found_on_line
 delivering q m made = rw (fresh_waits q) (record {
   done = [];

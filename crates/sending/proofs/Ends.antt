@@ -4,8 +4,8 @@ use Rattle.std.proofs.lemmas.List.{nil_from_length, same_from_push}
 use Rattle.std.proofs.lemmas.Bool.{ltb-true, cond-true, cond-false}
 use Rattle.waiting.specs.Messages.{waits, WaitingMessage}
 use Rattle.waiting.specs.declared.Sort.{Sort}
-use Rattle.sending.specs.Sender.{Made, waiting_of}
-use Rattle.sending.specs.Life.{Call, Life, followed, state_of, items, life_and}
+use Rattle.sending.specs.Sender.{SenderSetup, waiting_of}
+use Rattle.sending.specs.Life.{SenderCall, Life, followed, state_of, items, life_and}
 use Rattle.sending.specs.MessageLaws.{opportunity_item, first_start, longest_wait, LeftMessage, left_by_call, messages_left, MessagesEnd, BlockAt, found_on_line}
 use Rattle.sending.proofs.Codes.{most_blocks}
 use Rattle.sending.proofs.Gaps.{SoundOf}
@@ -14,7 +14,7 @@ use Rattle.sending.proofs.Opportunities.{next, next_to_come, not_far}
 use Rattle.sending.proofs.Deliveries.{Delivering, delivering}
 
 -- what was left before stays in front
-left_more : (q : Sort) (m : Made) (cs : List Call) (l : Life) → (more : List LeftMessage) × (messages_left q m (life_and l cs) ≡ messages_left q m l ++ more)
+left_more : (q : Sort) (m : SenderSetup) (cs : List SenderCall) (l : Life) → (more : List LeftMessage) × (messages_left q m (life_and l cs) ≡ messages_left q m l ++ more)
 unfolding life_and messages_left
 left_more q m [] l = ([], sym (append-nil (messages_left q m l)))
 left_more q m (c ∷ cs) l =

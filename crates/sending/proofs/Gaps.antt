@@ -12,7 +12,7 @@ use Rattle.sending.specs.Messages.{is_message}
 use Rattle.waiting.specs.Messages.{MessageToSend, message_to_send, WaitingMessage, nothing_waits, waits, next_block, with_one_gone}
 use Rattle.waiting.specs.declared.Sort.{Sort}
 use Rattle.waiting.specs.declared.Sort.TheVariants.{Delay as delays, Protection as protections}
-use Rattle.sending.specs.Sender.{Made, SenderState, new_sender_state, frame_result, gap_result, own_result, item_result, waiting_of, with_waiting, state_with, accepted_message}
+use Rattle.sending.specs.Sender.{SenderSetup, SenderState, new_sender_state, frame_result, gap_result, own_result, item_result, waiting_of, with_waiting, state_with, accepted_message}
 use Rattle.sending.specs.LineLaws.{IdleOrMessage, GapStands}
 use Rattle.sending.proofs.Codes.{all_messages, most_blocks, IsSound, to_send_sound, at_message}
 
@@ -58,7 +58,7 @@ goes q x d = due q x d.gone && waits d
 abbrev pub moved : Sort → Item → WaitingMessage → WaitingMessage
 moved q x d = cond (goes q x d) (with_one_gone d) d
 
-pub waiting_after : (m : Made) (s : SenderState) (w : Lists) (x : Item) (q : Sort) → waiting_of (item_result m s w x).state q ≡ moved q x (waiting_of s q)
+pub waiting_after : (m : SenderSetup) (s : SenderState) (w : Lists) (x : Item) (q : Sort) → waiting_of (item_result m s w x).state q ≡ moved q x (waiting_of s q)
 unfolding item_result frame_result
 waiting_after m s w FrameItem delays = refl
 waiting_after m s w FrameItem protections = refl
@@ -97,7 +97,7 @@ sound_moved : (q : Sort) (d : WaitingMessage) (t : Bool) → SoundOf q d → Sou
 sound_moved q d true h = record { all = h.all; few = h.few }
 sound_moved q d false h = h
 
-pub sound_item : (m : Made) (s : SenderState) (w : Lists) (x : Item) → Sound s → Sound (item_result m s w x).state
+pub sound_item : (m : SenderSetup) (s : SenderState) (w : Lists) (x : Item) → Sound s → Sound (item_result m s w x).state
 sound_item m s w x h q = subst (SoundOf q) (sym (waiting_after m s w x q)) (sound_moved q (waiting_of s q) (goes q x (waiting_of s q)) (h q))
 
 pub sound_more : (s : SenderState) (rest : List Block) → Sound s → Sound (record s { rest = rest })
@@ -134,7 +134,7 @@ sound_leave s k vs h = go (accepted_message s (message_to_send k vs)) refl
 pub next_message : (q : Sort) (d : WaitingMessage) → SoundOf q d → waits d ≡ true → is_message (next_block d) ≡ true
 next_message q d h e = at_message d.blocks d.gone h.all (ltb-true d.gone (length d.blocks) e)
 
-pub gap_stands : (m : Made) (s : SenderState) (w : Lists) (x : Item) → Sound s → is_frame x ≡ false → GapStands m (item_result m s w x).block x
+pub gap_stands : (m : SenderSetup) (s : SenderState) (w : Lists) (x : Item) → Sound s → is_frame x ≡ false → GapStands m (item_result m s w x).block x
 unfolding item_result
 gap_stands m s w FrameItem h t = absurd (both_ways true t refl)
 gap_stands m s w Idle h t = refl

@@ -8,9 +8,9 @@ use Rattle.block.specs.Fixed.{idle_block}
 use Rattle.schedule.specs.Cycle.{item_at}
 use Rattle.sending.specs.Blocks.{is_idle_block}
 use Rattle.waiting.specs.declared.Sort.{Sort}
-use Rattle.sending.specs.Sender.{Made}
+use Rattle.sending.specs.Sender.{SenderSetup}
 use Rattle.sending.specs.Life.{LineItem, frame, gap, items}
-use Rattle.sending.specs.LineLaws.{Each, Stands, IdleOrMessage}
+use Rattle.sending.specs.LineLaws.{Each, StandsInPlace, IdleOrMessage}
 use Rattle.sending.specs.MessageLaws.{is_opportunity, BlockAt, found_at_item, found_on_line, messages_left, whole_messages, IdleOrLeft, OnlyLeftMessages}
 use Rattle.sending.proofs.Codes.{message_no_idle}
 use Rattle.sending.proofs.Places.{standing, gap_idle_or_message}
@@ -23,8 +23,8 @@ here q i b o e =
     let P : List BlockAt → Type 0 = λ l. Contains l (record { item = i; block = b }) in
     subst P (sym one) (0, omega arith, refl)
 
-module _ (q : Sort) (m : Made) (whole : List BlockAt) where
-  one_item : (i : ℕ) (x : LineItem) → Stands m i x → ((y : BlockAt) → Contains (found_at_item q i x) y → Contains whole y) → IdleOrLeft q whole i x
+module _ (q : Sort) (m : SenderSetup) (whole : List BlockAt) where
+  one_item : (i : ℕ) (x : LineItem) → StandsInPlace m i x → ((y : BlockAt) → Contains (found_at_item q i x) y → Contains whole y) → IdleOrLeft q whole i x
   one_item i (frame f) h k = tt
   one_item i (gap b) h k = λ o. by o (gap_idle_or_message m i b h)
     where
@@ -32,7 +32,7 @@ module _ (q : Sort) (m : Made) (whole : List BlockAt) where
       by o (inl e) = inl e
       by o (inr e) = inr (k (record { item = i; block = b }) (here q i b o (message_no_idle b e)))
 
-  each_item : (i : ℕ) (xs : List LineItem) → Each (Stands m) i xs → ((y : BlockAt) → Contains (found_on_line q i xs) y → Contains whole y) → Each (IdleOrLeft q whole) i xs
+  each_item : (i : ℕ) (xs : List LineItem) → Each (StandsInPlace m) i xs → ((y : BlockAt) → Contains (found_on_line q i xs) y → Contains whole y) → Each (IdleOrLeft q whole) i xs
   unfolding Each found_on_line
   each_item i [] u k = tt
   each_item i (x ∷ xs) (p, u) k = (

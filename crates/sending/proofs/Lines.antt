@@ -5,7 +5,7 @@ use Rattle.port.specs.Model.{Lists}
 use Rattle.block.specs.Fixed.{start_block}
 use Rattle.schedule.specs.Cycle.{item_at}
 use Rattle.waiting.specs.Messages.{message_to_send}
-use Rattle.sending.specs.Sender.{Made, SenderState, frame_due, frame_result, item_result, send_result_by, accepted_message}
+use Rattle.sending.specs.Sender.{SenderSetup, SenderState, frame_due, frame_result, item_result, send_result_by, accepted_message}
 use Rattle.sending.specs.Life.{LineItem, frame, gap, made, followed, send, leave, state_of, items_begun_by, blocks, items}
 use Rattle.sending.specs.LineLaws.{blocks_of_item, blocks_of_items, AreOnLine, SendsItsItems}
 use Rattle.sending.proofs.Frames.{frame_opens}
@@ -25,7 +25,7 @@ all_whole is bs (inr (before, (f, (front, (p, q, r))))) =
     ∙ sym (joined_push before (frame f))
     ∙ ap blocks_of_items (sym p)
 
-module _ (m : Made) (s : SenderState) (w : Lists) where
+module _ (m : SenderSetup) (s : SenderState) (w : Lists) where
   begins_line : (is : List LineItem) (bs : List Block) → bs ≡ blocks_of_items is → Begins m s w (item_at s.position) → AreOnLine (is ++ items_begun_by m s w []) (bs ++ ((send_result_by m s w []).block ∷ [])) (send_result_by m s w []).state.rest
   unfolding frame_result frame_due
   begins_line is bs e (a_frame t g) =

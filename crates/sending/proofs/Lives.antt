@@ -5,11 +5,11 @@ use Rattle.refusal.specs.declared.Refusal.{Refusal}
 use Rattle.refusal.specs.declared.Refusal.TheVariants.{MessageWaits}
 use Rattle.waiting.specs.Messages.{MessageToSend, message_to_send, waits}
 use Rattle.sending.specs.Sender.{SenderState, Sender, waiting_of, accepted_message, state_with, leave_answer_to}
-use Rattle.sending.specs.Life.{Call, state_of, state_after_call, call_blocks, blocks, Lengthens, CallsLengthen}
+use Rattle.sending.specs.Life.{SenderCall, state_of, state_after_call, call_blocks, blocks, Lengthens, CallsLengthen}
 use Rattle.sending.specs.MessageLaws.{RefusedKeeps}
 
 -- for the contract of a call, by the equalities that it has
-pub lengthens : (before behind : Sender) (c : Call) (call_sent : List Block)
+pub lengthens : (before behind : Sender) (c : SenderCall) (call_sent : List Block)
     → behind ≡ record before { state = state_after_call before.made before.state c } → call_sent ≡ call_blocks before.made before.state c → Lengthens before c behind call_sent
 unfolding state_of blocks
 lengthens before behind c call_sent p q = (

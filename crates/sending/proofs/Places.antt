@@ -13,9 +13,9 @@ use Rattle.schedule.proofs.Counts.{frames_more, frames_same, frame_even, frame_o
 use Rattle.schedule.proofs.Items.{view}
 use Rattle.waiting.specs.Messages.{message_to_send}
 use Rattle.sending.specs.Laid.{pairs_for, room_for}
-use Rattle.sending.specs.Sender.{Made, SenderState, frame_result, item_result, send_result_by, frame_due, frame_begins_by, accepted_message}
+use Rattle.sending.specs.Sender.{SenderSetup, SenderState, frame_result, item_result, send_result_by, frame_due, frame_begins_by, accepted_message}
 use Rattle.sending.specs.Life.{Life, LineItem, frame, gap, made, followed, send, leave, state_of, items_begun_by, items}
-use Rattle.sending.specs.LineLaws.{Each, Stands, FrameStands, GapStands, ItemsInPlace, NoStart, GapsNeverStart, IdleOrMessage, blocks_of_items, frame_count, CyclesWhole}
+use Rattle.sending.specs.LineLaws.{Each, StandsInPlace, FrameStands, GapStands, ItemsInPlace, NoStart, GapsNeverStart, IdleOrMessage, blocks_of_items, frame_count, CyclesWhole}
 use Rattle.sending.specs.ClientLaws.{FillsSlots, SlotsFilled, Carries, FramesCarry, blocks_given_for, TakesWaiting, GivenLeaves, OthersKeep}
 use Rattle.sending.proofs.Frames.{length-frame_written}
 use Rattle.sending.proofs.Codes.{basic_message, cv_sort, cs_sort, gap_no_start}
@@ -35,10 +35,10 @@ each_map P Q f i [] u = tt
 each_map P Q f i (x ∷ xs) (p, u) = (f i x p, each_map P Q f (i + 1) xs u)
 
 -- what a life keeps
-pub record Standing (m : Made) (s : SenderState) (is : List LineItem) : Type 0 where
+pub record Standing (m : SenderSetup) (s : SenderState) (is : List LineItem) : Type 0 where
   pub counted : Counted s (length is)
   pub sound : Sound s
-  pub stands : Each (Stands m) 0 is
+  pub stands : Each (StandsInPlace m) 0 is
   pub fills : Each (λ i x. FillsSlots m x) 0 is
 
 length-pairs_for : (cal : List ℕ) (w : Lists) → length (pairs_for cal w) ≡ length cal
@@ -56,9 +56,9 @@ frame_item ClientSignal e = absurd (cc)
 frame_item (Delay j) e = absurd (cc)
 frame_item Spare e = absurd (cc)
 
-module _ (m : Made) (s : SenderState) (w : Lists) (is : List LineItem) (h : Standing m s is) where
-  here : (x : LineItem) → Stands m (length is) x → Stands m (0 + length is) x
-  here x p = let z : length is ≡ 0 + length is = omega arith in subst (λ k. Stands m k x) z p
+module _ (m : SenderSetup) (s : SenderState) (w : Lists) (is : List LineItem) (h : Standing m s is) where
+  here : (x : LineItem) → StandsInPlace m (length is) x → StandsInPlace m (0 + length is) x
+  here x p = let z : length is ≡ 0 + length is = omega arith in subst (λ k. StandsInPlace m k x) z p
 
   frame_stands : is_frame (item_at s.position) ≡ true → FrameStands m (length is) (frame_due m s w)
   unfolding frame_due
@@ -77,13 +77,13 @@ module _ (m : Made) (s : SenderState) (w : Lists) (is : List LineItem) (h : Stan
   begin_step (a_frame t g) = rw (t, g) (record {
     counted = rw (length_push is (frame (frame_due m s w))) (counted_frame m s w (length is) h.counted t);
     sound = rw (← g) (sound_item m s w (item_at s.position) h.sound);
-    stands = each_push (Stands m) 0 is _ h.stands (here (frame (frame_due m s w)) (frame_stands t));
+    stands = each_push (StandsInPlace m) 0 is _ h.stands (here (frame (frame_due m s w)) (frame_stands t));
     fills = each_push (λ i x. FillsSlots m x) 0 is _ h.fills frame_fills;
   })
   begin_step (a_gap t g) = rw t (record {
     counted = rw (length_push is (gap (item_result m s w (item_at s.position)).block)) (counted_gap s w (length is) (item_result m s w (item_at s.position)) h.counted t g);
     sound = sound_item m s w (item_at s.position) h.sound;
-    stands = each_push (Stands m) 0 is _ h.stands (here (gap (item_result m s w (item_at s.position)).block)
+    stands = each_push (StandsInPlace m) 0 is _ h.stands (here (gap (item_result m s w (item_at s.position)).block)
         (subst (GapStands m (item_result m s w (item_at s.position)).block) (due_item s (length is) h.counted) (gap_stands m s w (item_at s.position) h.sound t)));
     fills = each_push (λ i x. FillsSlots m x) 0 is _ h.fills tt;
   })
@@ -97,7 +97,7 @@ module _ (m : Made) (s : SenderState) (w : Lists) (is : List LineItem) (h : Stan
     fills = h.fills;
   })
 
-pub standing : (m : Made) (l : Life) → Standing m (state_of m l) (items m l)
+pub standing : (m : SenderSetup) (l : Life) → Standing m (state_of m l) (items m l)
 unfolding state_of items Each
 standing m made = record { counted = counted_none; sound = sound_none; stands = tt; fills = tt }
 standing m (followed l (send w)) = send_step m (state_of m l) w (items m l) (standing m l) (state_of m l).rest
@@ -116,7 +116,7 @@ items_in_place m l = (standing m l).stands
 pub slots_filled : SlotsFilled
 slots_filled m l = (standing m l).fills
 
-filled_carries : (m : Made) (i : ℕ) (x : LineItem) → FillsSlots m x → Carries m x
+filled_carries : (m : SenderSetup) (i : ℕ) (x : LineItem) → FillsSlots m x → Carries m x
 filled_carries m i (frame f) h = λ k z. ap without_idles (h.0 k z) ∙ without_filled (f.given k) (room_for k m.calendar)
 filled_carries m i (gap b) h = tt
 
@@ -124,7 +124,7 @@ pub frames_carry : FramesCarry
 frames_carry m l = each_map (λ i x. FillsSlots m x) (λ i x. Carries m x) (filled_carries m) 0 (items m l) (standing m l).fills
 
 -- no gap is a start block
-gap_sort : (m : Made) (b : Block) (x : Item) → GapStands m b x → IdleOrMessage b
+gap_sort : (m : SenderSetup) (b : Block) (x : Item) → GapStands m b x → IdleOrMessage b
 gap_sort m b FrameItem h = absurd h
 gap_sort m b Idle h = inl h
 gap_sort m b (Basic mark) h = subst IdleOrMessage (sym h) (inr (basic_message mark))
@@ -134,18 +134,18 @@ gap_sort m b ClientSignal h = subst IdleOrMessage (sym h) cs_sort
 gap_sort m b (Delay j) h = h
 gap_sort m b Spare h = inl h
 
-pub gap_idle_or_message : (m : Made) (i : ℕ) (b : Block) → Stands m i (gap b) → IdleOrMessage b
+pub gap_idle_or_message : (m : SenderSetup) (i : ℕ) (b : Block) → StandsInPlace m i (gap b) → IdleOrMessage b
 gap_idle_or_message m i b h = gap_sort m b (item_at i) h
 
-stands_no_start : (m : Made) (i : ℕ) (x : LineItem) → Stands m i x → NoStart x
+stands_no_start : (m : SenderSetup) (i : ℕ) (x : LineItem) → StandsInPlace m i x → NoStart x
 stands_no_start m i (frame f) h = tt
 stands_no_start m i (gap b) h = gap_no_start b (gap_idle_or_message m i b h)
 
 pub gaps_never_start : GapsNeverStart
-gaps_never_start m l = each_map (Stands m) (λ i x. NoStart x) (stands_no_start m) 0 (items m l) (standing m l).stands
+gaps_never_start m l = each_map (StandsInPlace m) (λ i x. NoStart x) (stands_no_start m) 0 (items m l) (standing m l).stands
 
 -- ---- at a send
-module _ (m : Made) (s : SenderState) (w : Lists) (k : ℕ) where
+module _ (m : SenderSetup) (s : SenderState) (w : Lists) (k : ℕ) where
   abbrev Takes : ℕ → List Block → Type 0
   Takes n rest = (blocks_given_for (items_begun_by m s w rest) k ≡ take n (w k)) × ((send_result_by m s w rest).waiting k ≡ drop n (w k))
 
@@ -186,7 +186,7 @@ others_keep m l w k h = none_or _ (room_for k m.calendar) (w k) _ (no_room k m.c
 shifted : (i n : ℕ) → frames_before ((i + 1) + n) ≡ frames_before (i + suc n)
 shifted i n = let z : (i + 1) + n ≡ i + suc n = omega arith in ap frames_before z
 
-pub counted_frames : (m : Made) (i : ℕ) (xs : List LineItem) → Each (Stands m) i xs → frame_count xs + frames_before i ≡ frames_before (i + length xs)
+pub counted_frames : (m : SenderSetup) (i : ℕ) (xs : List LineItem) → Each (StandsInPlace m) i xs → frame_count xs + frames_before i ≡ frames_before (i + length xs)
 unfolding Each frame_count
 counted_frames m i [] u = let z : i ≡ i + 0 = omega arith in let y : frames_before i ≡ frames_before (i + 0) = ap frames_before z in omega (arith, y)
 counted_frames m i (frame f ∷ xs) (p, u) = more (frame_count xs) (length xs) (counted_frames m (i + 1) xs u)
@@ -245,7 +245,7 @@ cycles_whole m l c h = (whole, blocks_whole)
 
     whole : frame_count seg ≡ 33
     whole =
-        let x = counted_frames m (0 + 65 * c) seg (each_take (Stands m) (0 + 65 * c) 65 (drop (65 * c) (items m l)) (each_drop (Stands m) 0 (65 * c) (items m l) (standing m l).stands)) in
+        let x = counted_frames m (0 + 65 * c) seg (each_take (StandsInPlace m) (0 + 65 * c) 65 (drop (65 * c) (items m l)) (each_drop (StandsInPlace m) 0 (65 * c) (items m l) (standing m l).stands)) in
         omega (arith, x, long)
 
     blocks_whole : length (blocks_of_items seg) ≡ 32768

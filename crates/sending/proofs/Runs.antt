@@ -6,9 +6,9 @@ use Rattle.block.specs.Fixed.{start_block}
 use Rattle.block.specs.Classes.{lawful_or_error}
 use Rattle.sending.specs.Blocks.{is_idle_block, without_idles}
 use Rattle.sending.specs.Laid.{blocks_laid_for}
-use Rattle.sending.specs.Sender.{Made}
+use Rattle.sending.specs.Sender.{SenderSetup}
 use Rattle.sending.specs.Life.{Life, LineItem, frame, gap, items, blocks, state_of}
-use Rattle.sending.specs.LineLaws.{Each, Stands, blocks_of_item, blocks_of_items, AreOnLine, blocks_from, RunsLined, CycleBlocks}
+use Rattle.sending.specs.LineLaws.{Each, StandsInPlace, blocks_of_item, blocks_of_items, AreOnLine, blocks_from, RunsLined, CycleBlocks}
 use Rattle.sending.specs.ClientLaws.{Carries, blocks_given_for, blocks_laid_in, StretchesCarry}
 use Rattle.sending.proofs.Lines.{lined}
 use Rattle.sending.proofs.Places.{standing, frames_carry, each_drop, each_take, cycles_whole, counted_frames, counted_blocks}
@@ -22,7 +22,7 @@ without_append (x ∷ xs) ys = rw (without_append xs ys) (go (is_idle_block x))
     go true = refl
     go false = refl
 
-over : (m : Made) (i : ℕ) (xs : List LineItem) (k : ℕ) → k ≢ 0 → Each (λ j x. Carries m x) i xs → without_idles (blocks_laid_in m xs k) ≡ map lawful_or_error (without_idles (blocks_given_for xs k))
+over : (m : SenderSetup) (i : ℕ) (xs : List LineItem) (k : ℕ) → k ≢ 0 → Each (λ j x. Carries m x) i xs → without_idles (blocks_laid_in m xs k) ≡ map lawful_or_error (without_idles (blocks_given_for xs k))
 unfolding Each without_idles
 over m i [] k z u = refl
 over m i (frame f ∷ xs) k z (p, u) =
@@ -85,10 +85,10 @@ front_whole is bs rest n h (inr (before, (f, (front, (p, q, r))))) =
 take_front : (n : ℕ) (xs ys tail : List Block) → ys ≡ xs ++ tail → length xs ≡ n → take n ys ≡ xs
 take_front n xs ys tail e h = ap (take n) e ∙ take_at xs tail n h
 
-before_cycle : (m : Made) (l : Life) (c : ℕ) → 65 * c ≤ length (items m l) → length (blocks_of_items (take (65 * c) (items m l))) ≡ 32768 * c
+before_cycle : (m : SenderSetup) (l : Life) (c : ℕ) → 65 * c ≤ length (items m l) → length (blocks_of_items (take (65 * c) (items m l))) ≡ 32768 * c
 before_cycle m l c h =
     let long : length (take (65 * c) (items m l)) ≡ 65 * c = simp length-take (omega arith) in
-    let f = counted_frames m 0 (take (65 * c) (items m l)) (each_take (Stands m) 0 (65 * c) (items m l) (standing m l).stands) in
+    let f = counted_frames m 0 (take (65 * c) (items m l)) (each_take (StandsInPlace m) 0 (65 * c) (items m l) (standing m l).stands) in
     let b = counted_blocks (take (65 * c) (items m l)) in
     omega (arith, long, f, b)
 

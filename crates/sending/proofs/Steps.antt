@@ -9,7 +9,7 @@ use Rattle.schedule.specs.Cycle.{is_frame, next_position}
 use Rattle.waiting.specs.Messages.{MessageToSend, WaitingMessage, waits, next_block, with_one_gone}
 use Rattle.waiting.specs.declared.Sort.{Sort}
 use Rattle.waiting.specs.declared.Sort.TheVariants.{Delay as delays, Protection as protections}
-use Rattle.sending.specs.Sender.{Made, SenderState, SendResult, frame_result, gap_result, own_result, item_result, with_waiting, state_with}
+use Rattle.sending.specs.Sender.{SenderSetup, SenderState, SendResult, frame_result, gap_result, own_result, item_result, with_waiting, state_with}
 
 pub record Gapped (s : SenderState) (w : Lists) (r : SendResult) : Type 0 where
   pub rest : r.state.rest ≡ []
@@ -17,7 +17,7 @@ pub record Gapped (s : SenderState) (w : Lists) (r : SendResult) : Type 0 where
   pub number : r.state.number ≡ s.number
   pub waiting : r.waiting ≡ w
 
-pub data Begins (m : Made) (s : SenderState) (w : Lists) (x : Item) : Type 0 where
+pub data Begins (m : SenderSetup) (s : SenderState) (w : Lists) (x : Item) : Type 0 where
   a_frame : is_frame x ≡ true → item_result m s w x ≡ frame_result m s w → Begins m s w x
   a_gap : is_frame x ≡ false → Gapped s w (item_result m s w x) → Begins m s w x
 
@@ -28,7 +28,7 @@ either : (s : SenderState) (w : Lists) (t : Bool) (a b : SendResult) → Gapped 
 either s w true a b h k = h
 either s w false a b h k = k
 
-pub begins : (m : Made) (s : SenderState) (w : Lists) (x : Item) → Begins m s w x
+pub begins : (m : SenderSetup) (s : SenderState) (w : Lists) (x : Item) → Begins m s w x
 unfolding item_result
 begins m s w FrameItem = a_frame refl refl
 begins m s w Idle = a_gap refl (gapped s w _ _ _)

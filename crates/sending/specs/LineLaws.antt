@@ -11,7 +11,7 @@ use Rattle.whole_frame.specs.Meaning.{frame_written}
 use Rattle.sending.specs.Frames.{fields}
 use Rattle.sending.specs.Blocks.{is_start_block}
 use Rattle.sending.specs.Messages.{cv_block, cs_block, is_message}
-use Rattle.sending.specs.Sender.{Made, LineFrame}
+use Rattle.sending.specs.Sender.{SenderSetup, LineFrame}
 use Rattle.sending.specs.Life.{Life, LineItem, frame, gap, state_of, blocks, items}
 
 -- the blocks of an item, and of items in order
@@ -34,10 +34,10 @@ AreOnLine is bs rest =
 
 -- the blocks sent are those of the items begun, in order
 abbrev pub SendsItsItems : Type 0
-SendsItsItems = (m : Made) (l : Life) → AreOnLine (items m l) (blocks m l) (state_of m l).rest
+SendsItsItems = (m : SenderSetup) (l : Life) → AreOnLine (items m l) (blocks m l) (state_of m l).rest
 
 -- item i of a life, from 0, is what the schedule says: a frame has its number, announces its entry, and has a pair for each slot
-pub record FrameStands (m : Made) (i : ℕ) (f : LineFrame) : Type 0 where
+pub record FrameStands (m : SenderSetup) (i : ℕ) (f : LineFrame) : Type 0 where
   pub item : item_at i ≡ FrameItem
   pub number : f.number ≡ frames_before i % slots
   pub entry : f.entry ≡ slice_index m.calendar f.number
@@ -47,7 +47,7 @@ abbrev pub IdleOrMessage : Block → Type 0
 IdleOrMessage b = (b ≡ idle_block) ⊎ IsTrue (is_message b)
 
 -- what of the messages that were left stands at an opportunity, and when, is said by the laws of messages
-abbrev pub GapStands : Made → Block → Item → Type 0
+abbrev pub GapStands : SenderSetup → Block → Item → Type 0
 GapStands m b FrameItem = ⊥
 GapStands m b Idle = b ≡ idle_block
 GapStands m b (Basic mark) = b ≡ basic_block mark
@@ -57,9 +57,9 @@ GapStands m b ClientSignal = b ≡ cs_block
 GapStands m b (Delay block) = IdleOrMessage b
 GapStands m b Spare = b ≡ idle_block
 
-abbrev pub Stands : Made → ℕ → LineItem → Type 0
-Stands m i (frame f) = FrameStands m i f
-Stands m i (gap b) = GapStands m b (item_at i)
+abbrev pub StandsInPlace : SenderSetup → ℕ → LineItem → Type 0
+StandsInPlace m i (frame f) = FrameStands m i f
+StandsInPlace m i (gap b) = GapStands m b (item_at i)
 
 -- what holds of each of some items, with its number, from i on
 unfoldable pub Each : (ℕ → LineItem → Type 0) → ℕ → List LineItem → Type 0
@@ -67,7 +67,7 @@ Each P i [] = Unit {0}
 Each P i (x ∷ xs) = P i x × Each P (i + 1) xs
 
 abbrev pub ItemsInPlace : Type 0
-ItemsInPlace = (m : Made) (l : Life) → Each (Stands m) 0 (items m l)
+ItemsInPlace = (m : SenderSetup) (l : Life) → Each (StandsInPlace m) 0 (items m l)
 
 -- a gap block is never a start block
 abbrev pub NoStart : LineItem → Type 0
@@ -75,7 +75,7 @@ NoStart (frame f) = Unit {0}
 NoStart (gap b) = IsFalse (is_start_block b)
 
 abbrev pub GapsNeverStart : Type 0
-GapsNeverStart = (m : Made) (l : Life) → Each (λ i x. NoStart x) 0 (items m l)
+GapsNeverStart = (m : SenderSetup) (l : Life) → Each (λ i x. NoStart x) 0 (items m l)
 
 abbrev pub one_if_frame : LineItem → ℕ
 one_if_frame (frame f) = 1
@@ -86,29 +86,29 @@ frame_count [] = 0
 frame_count (x ∷ xs) = one_if_frame x + frame_count xs
 
 -- the 65 items of cycle c
-abbrev pub cycle_of : Made → Life → ℕ → List LineItem
+abbrev pub cycle_of : SenderSetup → Life → ℕ → List LineItem
 cycle_of m l c = take 65 (drop (65 * c) (items m l))
 
 -- a whole cycle has 33 frames, 32 gaps and 32,768 blocks
 abbrev pub CyclesWhole : Type 0
 CyclesWhole =
-    (m : Made) (l : Life) (c : ℕ)
+    (m : SenderSetup) (l : Life) (c : ℕ)
     → 65 * c + 65 ≤ length (items m l)
     → (frame_count (cycle_of m l c) ≡ 33) × (length (blocks_of_items (cycle_of m l c)) ≡ 32768)
 
 -- and the 32,768 blocks that begin cycle c are those of its items
 abbrev pub CycleBlocks : Type 0
 CycleBlocks =
-    (m : Made) (l : Life) (c : ℕ)
+    (m : SenderSetup) (l : Life) (c : ℕ)
     → 65 * c + 65 < length (items m l)
     → take 32768 (drop (32768 * c) (blocks m l)) ≡ blocks_of_items (cycle_of m l c)
 
 -- the blocks from item i on are those of the items from i on
-abbrev pub blocks_from : Made → Life → ℕ → List Block
+abbrev pub blocks_from : SenderSetup → Life → ℕ → List Block
 blocks_from m l i = drop (length (blocks_of_items (take i (items m l)))) (blocks m l)
 
 abbrev pub RunsLined : Type 0
 RunsLined =
-    (m : Made) (l : Life) (i : ℕ)
+    (m : SenderSetup) (l : Life) (i : ℕ)
     → i < length (items m l)
     → AreOnLine (drop i (items m l)) (blocks_from m l i) (state_of m l).rest

@@ -13,8 +13,8 @@ use Rattle.sending.specs.Messages.{same_sort}
 use Rattle.waiting.specs.Messages.{MessageToSend, message_to_send, waits}
 use Rattle.waiting.specs.declared.Sort.{Sort}
 use Rattle.waiting.specs.declared.Sort.TheVariants.{Delay as delays, Protection as protections}
-use Rattle.sending.specs.Sender.{Made, SenderState, waiting_of, accepted_message, leave_answer, state_after_leave}
-use Rattle.sending.specs.Life.{Call, Life, LineItem, frame, gap, made, followed, send, leave, state_of, items, life_and}
+use Rattle.sending.specs.Sender.{SenderSetup, SenderState, waiting_of, accepted_message, leave_answer, state_after_leave}
+use Rattle.sending.specs.Life.{SenderCall, Life, LineItem, frame, gap, made, followed, send, leave, state_of, items, life_and}
 use Rattle.sending.specs.LineLaws.{Each}
 
 -- a refused leaving leaves the sender as it was
@@ -94,12 +94,12 @@ abbrev pub message_left : Sort → ℕ → Option MessageToSend → List LeftMes
 message_left sort n None = []
 message_left sort n (Some x) = if same_sort sort x.sort then record { after = n; blocks = x.blocks } ∷ [] else []
 
-abbrev pub left_by_call : Sort → SenderState → ℕ → Call → List LeftMessage
+abbrev pub left_by_call : Sort → SenderState → ℕ → SenderCall → List LeftMessage
 left_by_call sort s n (send waiting) = []
 left_by_call sort s n (leave kind values) = message_left sort n (accepted_message s (message_to_send kind values))
 
 -- the messages of a sort that were accepted, in the order of leaving
-unfoldable pub messages_left : Sort → Made → Life → List LeftMessage
+unfoldable pub messages_left : Sort → SenderSetup → Life → List LeftMessage
 messages_left sort m made = []
 messages_left sort m (followed l c) = messages_left sort m l ++ left_by_call sort (state_of m l) (length (items m l)) c
 
@@ -111,7 +111,7 @@ whole_messages sort = flat_map (λ (x : LeftMessage). in_a_row sort (first_start
 -- once
 abbrev pub MessagesOnTime : Type 0
 MessagesOnTime =
-    (sort : Sort) (m : Made) (l : Life)
+    (sort : Sort) (m : SenderSetup) (l : Life)
     → ((rest : List BlockAt) × (
     (found_on_line sort 0 (items m l) ++ rest ≡ whole_messages sort (messages_left sort m l))
     × All (λ (x : BlockAt). length (items m l) ≤ x.item) rest))
@@ -119,7 +119,7 @@ MessagesOnTime =
 -- all but the last are whole on the line, and the last is too unless it waits: then the line has the blocks of it that are gone
 abbrev pub MessagesSent : Type 0
 MessagesSent =
-    (sort : Sort) (m : Made) (l : Life)
+    (sort : Sort) (m : SenderSetup) (l : Life)
     → let d = waiting_of (state_of m l) sort in
     ((done : List LeftMessage) × ((last : LeftMessage) × (
     (messages_left sort m l ≡ done ++ (if waits d then last ∷ [] else []))
@@ -133,7 +133,7 @@ IdleOrLeft sort whole i (gap b) = IsTrue (is_opportunity sort (item_at i)) → (
 
 abbrev pub OnlyLeftMessages : Type 0
 OnlyLeftMessages =
-    (sort : Sort) (m : Made) (l : Life) → Each (IdleOrLeft sort (whole_messages sort (messages_left sort m l))) 0 (items m l)
+    (sort : Sort) (m : SenderSetup) (l : Life) → Each (IdleOrLeft sort (whole_messages sort (messages_left sort m l))) 0 (items m l)
 
 -- how many items it takes at most until a message that waits is whole on the line: a round, or two cycles, and the opportunities of its other blocks
 abbrev pub longest_wait : Sort → ℕ
@@ -143,7 +143,7 @@ longest_wait protections = 2 * 130
 -- of all messages left until so many items more have begun, only one that was left later can wait
 abbrev pub MessagesEnd : Type 0
 MessagesEnd =
-    (sort : Sort) (m : Made) (l : Life) (cs : List Call)
+    (sort : Sort) (m : SenderSetup) (l : Life) (cs : List SenderCall)
     → IsTrue (waits (waiting_of (state_of m l) sort))
     → length (items m l) + longest_wait sort ≤ length (items m (life_and l cs))
     → length (messages_left sort m l) + (if waits (waiting_of (state_of m (life_and l cs)) sort) then 1 else 0)

@@ -15,13 +15,13 @@ use Rattle.numbers.specs.Walk.{next_frame_number}
 use Rattle.sending.specs.Frames.{frame_rest}
 use Rattle.sending.specs.Laid.{pairs_for, lists_after_frame, blocks_given}
 use Rattle.sending.specs.Messages.{cv_block, cs_block}
-use Rattle.waiting.specs.Left.{Left, nothing_left, waiting_in, left_with, answer_by, accepted_by, left_with_message, left_answer, left_after_leave}
+use Rattle.waiting.specs.Left.{WaitingBySort, nothing_left, waiting_in, left_with, answer_by, accepted_by, left_with_message, left_answer, left_after_leave}
 use Rattle.waiting.specs.Messages.{MessageToSend, message_to_send, WaitingMessage, nothing_waits, waits, next_block, with_one_gone}
 use Rattle.waiting.specs.declared.Sort.{Sort}
 use Rattle.waiting.specs.declared.Sort.TheVariants.{Delay as delays, Protection as protections}
 
 -- what a sender is made from: the calendar's 480 entries, and the 32 trail bytes of its CV message
-pub record Made : Type 0 where
+pub record SenderSetup : Type 0 where
   pub calendar : List ℕ
   pub trail : List ℕ
 
@@ -33,7 +33,7 @@ pub record SenderState : Type 0 where
   -- the number of the next frame
   pub number : ℕ
   -- the messages that wait
-  pub left : Left
+  pub left : WaitingBySort
 
 -- a sender that has sent nothing
 abbrev pub new_sender_state : SenderState
@@ -47,7 +47,7 @@ pub record LineFrame : Type 0 where
   pub given : Lists
 
 -- the frame that is due: number m announces the entry of slot m + 1, before which m others stand
-unfoldable pub frame_due : Made → SenderState → Lists → LineFrame
+unfoldable pub frame_due : SenderSetup → SenderState → Lists → LineFrame
 frame_due m s waiting = record {
   number = s.number;
   entry = slice_index m.calendar s.number;
@@ -66,7 +66,7 @@ abbrev pub more_result : SenderState → Lists → Block → List Block → Send
 more_result s waiting block rest = record { block = block; state = record s { rest = rest }; waiting = waiting }
 
 -- the start block of a frame, which takes from the lists
-unfoldable pub frame_result : Made → SenderState → Lists → SendResult
+unfoldable pub frame_result : SenderSetup → SenderState → Lists → SendResult
 frame_result m s waiting = record {
   block = start_block;
   state = record s {
@@ -90,7 +90,7 @@ abbrev pub own_result : SenderState → Lists → Block → SendResult
 own_result s waiting block = gap_result s waiting block s.left.delay s.left.protection
 
 -- what is sent where an item begins; block j of a delay message goes at its own opportunity alone
-unfoldable pub item_result : Made → SenderState → Lists → Item → SendResult
+unfoldable pub item_result : SenderSetup → SenderState → Lists → Item → SendResult
 item_result m s waiting FrameItem = frame_result m s waiting
 item_result m s waiting Idle = own_result s waiting idle_block
 item_result m s waiting (Basic mark) = own_result s waiting (basic_block mark)
@@ -105,11 +105,11 @@ item_result m s waiting (Delay block) =
 item_result m s waiting Spare = own_result s waiting idle_block
 
 -- a send, by what is left of the frame under way
-abbrev pub send_result_by : Made → SenderState → Lists → List Block → SendResult
+abbrev pub send_result_by : SenderSetup → SenderState → Lists → List Block → SendResult
 send_result_by m s waiting [] = item_result m s waiting (item_at s.position)
 send_result_by m s waiting (b ∷ bs) = more_result s waiting b bs
 
-abbrev pub send_result : Made → SenderState → Lists → SendResult
+abbrev pub send_result : SenderSetup → SenderState → Lists → SendResult
 send_result m s waiting = send_result_by m s waiting s.rest
 
 -- whether a send begins a frame
@@ -144,7 +144,7 @@ state_after_leave s kind values = record s { left = left_after_leave s.left kind
 
 -- a sender as its calls see it
 pub record Sender : Type 0 where
-  pub made : Made
+  pub made : SenderSetup
   pub state : SenderState
 
 abbrev pub new_sender : List ℕ → List ℕ → Sender

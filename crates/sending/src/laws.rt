@@ -1,7 +1,7 @@
 //! The laws of every life of a sender: made once, then any calls in any order, refused or not, whatever waits at the inlets.
 
 ghost use Rattle.sending.specs.Life.{CallsLengthen};
-ghost use Rattle.sending.specs.LineLaws.{SendsItsItems, ItemsInPlace, GapsNeverStart, CyclesWhole, CycleBlocks, RunsLined};
+ghost use Rattle.sending.specs.LineLaws.{CycleBlocks, CyclesWhole, GapsNeverStart, ItemsInPlace, RunsLined, SendsItsItems};
 ghost use Rattle.sending.specs.ClientLaws.{SlotsFilled, LaidWhole, FramesCarry, StretchesCarry, TakesWaiting, GivenLeaves, OthersKeep};
 ghost use Rattle.sending.specs.MessageLaws.{RefusedKeeps, MessagesSent, MessagesOnTime, OnlyLeftMessages, MessagesEnd, FirstStarts};
 

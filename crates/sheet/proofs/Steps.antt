@@ -8,7 +8,7 @@ use Rattle.refusal.specs.declared.SheetRefusal.{SheetRefusal}
 use Rattle.form.specs.declared.FormError.{FormError}
 use Rattle.form.specs.Marks.{LineOf, first_line, lines, all_marks}
 use Rattle.form.proofs.Lines.{lines_from_first}
-use Rattle.sheet.specs.Verdict.{chain, lines_verdict, lease_verdict, line_form, line_verdict, longest_sheet, refusal_at, verdict}
+use Rattle.sheet.specs.Verdict.{chain, lines_verdict, lease_verdict, lease_line_form, line_verdict, longest_sheet, refusal_at, verdict}
 
 module _ (n : ℕ) (es xs : List ℕ) (some : 0 < length xs) where
   first_judged : lines_verdict n es (lines xs) ≡ chain (line_verdict n es (first_line xs).0) (λ after. lines_verdict (n + 1) after (lines (first_line xs).1))
@@ -18,20 +18,20 @@ module _ (n : ℕ) (es xs : List ℕ) (some : 0 < length xs) where
   mark_refused e =
       first_judged
       ∙ ap (λ r. chain r (λ after. lines_verdict (n + 1) after (lines (first_line xs).1)))
-      (cond-false (all_marks (first_line xs).0.text) (lease_verdict n es (line_form (first_line xs).0)) (Err (refusal_at MarkNotAllowed Marks n)) e)
+      (cond-false (all_marks (first_line xs).0.text) (lease_verdict n es (lease_line_form (first_line xs).0)) (Err (refusal_at MarkNotAllowed Marks n)) e)
 
   module _ (l : LineOf) (ys : List ℕ) (is : (l, ys) ≡ first_line xs) (marks : all_marks (first_line xs).0.text ≡ true) where
-    line_judged : lines_verdict n es (lines xs) ≡ chain (lease_verdict n es (line_form l)) (λ after. lines_verdict (n + 1) after (lines ys))
+    line_judged : lines_verdict n es (lines xs) ≡ chain (lease_verdict n es (lease_line_form l)) (λ after. lines_verdict (n + 1) after (lines ys))
     line_judged =
         first_judged
         ∙ ap (λ r. chain r (λ after. lines_verdict (n + 1) after (lines (first_line xs).1)))
-        (cond-true (all_marks (first_line xs).0.text) (lease_verdict n es (line_form (first_line xs).0)) (Err (refusal_at MarkNotAllowed Marks n)) marks)
-        ∙ ap (λ p. chain (lease_verdict n es (line_form p.0)) (λ after. lines_verdict (n + 1) after (lines p.1))) (sym is)
+        (cond-true (all_marks (first_line xs).0.text) (lease_verdict n es (lease_line_form (first_line xs).0)) (Err (refusal_at MarkNotAllowed Marks n)) marks)
+        ∙ ap (λ p. chain (lease_verdict n es (lease_line_form p.0)) (λ after. lines_verdict (n + 1) after (lines p.1))) (sym is)
 
-    pub line_refused : (e : SheetRefusal) → lease_verdict n es (line_form l) ≡ Err e → lines_verdict n es (lines xs) ≡ Err e
+    pub line_refused : (e : SheetRefusal) → lease_verdict n es (lease_line_form l) ≡ Err e → lines_verdict n es (lines xs) ≡ Err e
     line_refused e h = line_judged ∙ ap (λ r. chain r (λ after. lines_verdict (n + 1) after (lines ys))) h
 
-    pub line_read : (out : List ℕ) → lease_verdict n es (line_form l) ≡ Ok out → lines_verdict n es (lines xs) ≡ lines_verdict (n + 1) out (lines ys)
+    pub line_read : (out : List ℕ) → lease_verdict n es (lease_line_form l) ≡ Ok out → lines_verdict n es (lines xs) ≡ lines_verdict (n + 1) out (lines ys)
     line_read out h = line_judged ∙ ap (λ r. chain r (λ after. lines_verdict (n + 1) after (lines ys))) h
 
 -- a sheet that is not too long is judged line by line

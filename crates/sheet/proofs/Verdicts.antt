@@ -13,15 +13,15 @@ use Rattle.form.specs.Form as forms
 use Rattle.form.specs.declared.Mark.{Mark}
 use Rattle.form.proofs.Texts.{form_is, form_reads}
 use Rattle.form.proofs.Plain.{lines_rejoined, plain_lease, plain_line, plain_marked, rejoined}
-use Rattle.sheet.specs.Verdict.{chain, lines_verdict, lease_verdict, line_form, line_verdict, longest_sheet, refusal_at, verdict}
-use Rattle.sheet.specs.Laws.{Apart, Breaks, EachLawful, Gives, InRange, Lawful, Leases, RefusedSheet, Rule, WritesOut, Stands, cause_of, client, form, groups_of, level_of, marks, order, range, sheet_text, slot, lease_line, lease_lines}
+use Rattle.sheet.specs.Verdict.{chain, lines_verdict, lease_verdict, lease_line_form, line_verdict, longest_sheet, refusal_at, verdict}
+use Rattle.sheet.specs.Laws.{Apart, Breaks, EachLawful, Gives, InRange, Lawful, Leases, RefusedSheet, Rule, WritesOut, StandsAt, cause_of, client, form, groups_of, level_of, marks, order, range, sheet_text, slot, lease_line, lease_lines}
 use Rattle.sheet.proofs.Leased.{apart_parts, each_last, groups_append, each_prefix}
 use Rattle.sheet.proofs.Steps.{not_long}
 use Rattle.sheet.proofs.Weighing.{State, Fault, err_ok, ok_err, ok_same, err_same, far, again, clash, lease_fails, lease_ok, lease_reads, writable}
 
 -- marks
 
-pub no_bad_mark : (xs : List ℕ) (c : ℕ) → all_marks xs ≡ true → Stands c xs → mark_of c ≡ None → ⊥
+pub no_bad_mark : (xs : List ℕ) (c : ℕ) → all_marks xs ≡ true → StandsAt c xs → mark_of c ≡ None → ⊥
 no_bad_mark [] c e h z = h
 no_bad_mark (x ∷ xs) c e h z =
     ⊎_elim
@@ -35,7 +35,7 @@ none_of : (o : Option Mark) → is_some o ≡ false → o ≡ None
 none_of None e = refl
 none_of (Some x) e = absurd (false≢true (sym e))
 
-pub bad_mark : (xs : List ℕ) → all_marks xs ≡ false → (c : ℕ) × Stands c xs × (mark_of c ≡ None)
+pub bad_mark : (xs : List ℕ) → all_marks xs ≡ false → (c : ℕ) × StandsAt c xs × (mark_of c ≡ None)
 bad_mark [] e = absurd (false≢true (sym e))
 bad_mark (x ∷ xs) e =
     ⊎_elim
@@ -51,7 +51,7 @@ written_same l m v w e = same_Some _ _ (sym (form_reads l v) ∙ ap (λ t. forms
 line_same : (a b : List ℕ) (s t : Bool) → a ≡ b → s ≡ t → ◌≡◌ {A = LineOf} (record { text = a; ended = s }) (record { text = b; ended = t })
 line_same a b s t e f = cc
 
-line_form_is : (l : LineOf) (m : Lease) → line_form l ≡ Some m → Writable m × (l ≡ lease_line m)
+line_form_is : (l : LineOf) (m : Lease) → lease_line_form l ≡ Some m → Writable m × (l ≡ lease_line m)
 line_form_is l m e =
     ⊎_elim
     (λ t. let f = form_is l.text m (sym (cond-true l.ended (forms.form l.text) None t) ∙ e) in
@@ -59,7 +59,7 @@ line_form_is l m e =
     (λ t. absurd (let z = sym (cond-false l.ended (forms.form l.text) None t) ∙ e in let y : ◌≡◌ {A = ℕ} 0 1 = cc in omega arith))
     (cases_Bool l.ended)
 
-line_form_reads : (m : Lease) → Writable m → line_form (lease_line m) ≡ Some m
+line_form_reads : (m : Lease) → Writable m → lease_line_form (lease_line m) ≡ Some m
 line_form_reads m w = form_reads m w
 
 -- one line behind the leases ls
@@ -68,10 +68,10 @@ abbrev First : List Lease → LineOf → Rule → Type 0
 First ls l rule = Breaks ls l rule × ((r : Rule) → order r < order rule → Breaks ls l r → ⊥)
 
 module _ (ls : List Lease) (es : List ℕ) (state : State ls es) (n : ℕ) (l : LineOf) where
-  marked_verdict : all_marks l.text ≡ true → line_verdict n es l ≡ lease_verdict n es (line_form l)
-  marked_verdict t = cond-true (all_marks l.text) (lease_verdict n es (line_form l)) (Err (refusal_at MarkNotAllowed Marks n)) t
+  marked_verdict : all_marks l.text ≡ true → line_verdict n es l ≡ lease_verdict n es (lease_line_form l)
+  marked_verdict t = cond-true (all_marks l.text) (lease_verdict n es (lease_line_form l)) (Err (refusal_at MarkNotAllowed Marks n)) t
 
-  form_cases : (o : Option Lease) → line_form l ≡ o → (line_form l ≡ None) ⊎ ((m : Lease) × (line_form l ≡ Some m))
+  form_cases : (o : Option Lease) → lease_line_form l ≡ o → (lease_line_form l ≡ None) ⊎ ((m : Lease) × (lease_line_form l ≡ Some m))
   form_cases None e = inl e
   form_cases (Some m) e = inr (m, e)
 
@@ -83,8 +83,8 @@ module _ (ls : List Lease) (es : List ℕ) (state : State ls es) (n : ℕ) (l : 
       (λ z. absurd (err_ok (sym (ap (lease_verdict n es) z) ∙ f)))
       (λ p. let m : Lease = p.0 in let w = line_form_is l m p.1 in
       (m, w.1, lease_ok ls es state m n w.0.1 out (sym (ap (lease_verdict n es) p.1) ∙ f)))
-      (form_cases (line_form l) refl))
-      (λ t. absurd (err_ok (sym (cond-false (all_marks l.text) (lease_verdict n es (line_form l)) (Err (refusal_at MarkNotAllowed Marks n)) t) ∙ e)))
+      (form_cases (lease_line_form l) refl))
+      (λ t. absurd (err_ok (sym (cond-false (all_marks l.text) (lease_verdict n es (lease_line_form l)) (Err (refusal_at MarkNotAllowed Marks n)) t) ∙ e)))
       (cases_Bool (all_marks l.text))
 
   module _ (t : all_marks l.text ≡ true) where
@@ -143,16 +143,16 @@ module _ (ls : List Lease) (es : List ℕ) (state : State ls es) (n : ℕ) (l : 
       ))
       (λ p. let m : Lease = p.0 in let w = line_form_is l m p.1 in
       fault_first t m w.0 w.1 e (lease_fails ls es state m n w.0.1 e (sym (ap (lease_verdict n es) p.1) ∙ f)))
-      (form_cases (line_form l) refl))
+      (form_cases (lease_line_form l) refl))
       (λ t. (
         marks,
-        sym (err_same (sym (cond-false (all_marks l.text) (lease_verdict n es (line_form l)) (Err (refusal_at MarkNotAllowed Marks n)) t) ∙ h)),
+        sym (err_same (sym (cond-false (all_marks l.text) (lease_verdict n es (lease_line_form l)) (Err (refusal_at MarkNotAllowed Marks n)) t) ∙ h)),
         (bad_mark l.text t, λ r o b. none_before r o),
       ))
       (cases_Bool (all_marks l.text))
     where
-      unwritten : (m : Lease) → Writable m → l ≡ lease_line m → line_form l ≡ None → ⊥
-      unwritten m w is z = let y = sym z ∙ ap line_form is ∙ line_form_reads m w in let q : ◌≡◌ {A = ℕ} 0 1 = cc in omega arith
+      unwritten : (m : Lease) → Writable m → l ≡ lease_line m → lease_line_form l ≡ None → ⊥
+      unwritten m w is z = let y = sym z ∙ ap lease_line_form is ∙ line_form_reads m w in let q : ◌≡◌ {A = ℕ} 0 1 = cc in omega arith
 
       none_before : (r : Rule) → order r < 0 → ⊥
       none_before r o = omega arith
@@ -232,7 +232,7 @@ lines_read (m ∷ new) ls n es state w =
     let can = writable m last.0 last.1 in
     let read = lease_reads ls es state m n front in
     let ok : line_verdict n es (lease_line m) ≡ Ok read.0 =
-    cond-true (all_marks (lease_text m)) (lease_verdict n es (line_form (lease_line m))) (Err (refusal_at MarkNotAllowed Marks n)) (plain_marked (lease_text m) (plain_lease m can))
+    cond-true (all_marks (lease_text m)) (lease_verdict n es (lease_line_form (lease_line m))) (Err (refusal_at MarkNotAllowed Marks n)) (plain_marked (lease_text m) (plain_lease m can))
     ∙ ap (lease_verdict n es) (line_form_reads m can) ∙ read.1 in
     let next = lease_ok ls es state m n last.0 read.0 read.1 in
     let r = lines_read new (ls ++ (m ∷ [])) (n + 1) read.0 next v in (

@@ -105,15 +105,15 @@ level_of client = Calendar
 level_of slot = Calendar
 
 -- a byte stands in the text
-abbrev pub Stands : ℕ → List ℕ → Type 0
-Stands c [] = ⊥
-Stands c (x ∷ xs) = (x ≡ c) ⊎ Stands c xs
+abbrev pub StandsAt : ℕ → List ℕ → Type 0
+StandsAt c [] = ⊥
+StandsAt c (x ∷ xs) = (x ≡ c) ⊎ StandsAt c xs
 
 -- a line, behind lines that write out leases, breaks a rule:
 -- a byte is no mark; the line writes out no lease; a number of its lease is out of range or its slots fall;
 -- its client has a lease already; one of its slots is given twice
 abbrev pub Breaks : List Lease → LineOf → Rule → Type 0
-Breaks ls l marks = (c : ℕ) × Stands c l.text × (mark_of c ≡ None)
+Breaks ls l marks = (c : ℕ) × StandsAt c l.text × (mark_of c ≡ None)
 Breaks ls l form = (m : Lease) → Writable m → l ≢ lease_line m
 Breaks ls l range = (m : Lease) × Writable m × (l ≡ lease_line m) × (InRange m → ⊥)
 Breaks ls l client = (m : Lease) × Writable m × (l ≡ lease_line m) × Leases m.client ls

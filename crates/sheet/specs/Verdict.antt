@@ -85,12 +85,12 @@ lease_verdict n es None = Err (refusal_at FormBroken Forms n)
 lease_verdict n es (Some l) = claim_verdict n (is_named l.client es) (claims l.client l.groups (start es))
 
 -- the lease that a line writes, which a newline must end
-abbrev pub line_form : LineOf → Option Lease
-line_form l = if l.ended then form l.text else None
+abbrev pub lease_line_form : LineOf → Option Lease
+lease_line_form l = if l.ended then form l.text else None
 
 -- line n behind lines that gave the entries: first its marks, then its form, then its lease
 abbrev pub line_verdict : ℕ → List ℕ → LineOf → Result (List ℕ) SheetRefusal
-line_verdict n es l = if all_marks l.text then lease_verdict n es (line_form l) else Err (refusal_at MarkNotAllowed Marks n)
+line_verdict n es l = if all_marks l.text then lease_verdict n es (lease_line_form l) else Err (refusal_at MarkNotAllowed Marks n)
 
 abbrev pub chain : Result (List ℕ) SheetRefusal → (List ℕ → Result (List ℕ) SheetRefusal) → Result (List ℕ) SheetRefusal
 chain (Ok es) f = f es

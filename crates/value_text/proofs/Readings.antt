@@ -3,9 +3,9 @@ use Rattle.std.proofs.Common.{◌≡◌, ℕ, suc, ◌+◌, ◌*◌, ◌/◌, �
 use Rattle.std.specs.List.{flat_map}
 use Rattle.std.proofs.lemmas.Bool.{lt-ltb, le-ltb, ltb-true, ltb-false}
 use Rattle.block.specs.Whole.{Bytes}
-use Rattle.value_text.specs.Texts.{digit_value, hex_digit, spaced_byte, spaced_bytes, HexReadsBack}
+use Rattle.value_text.specs.Texts.{digit_value, capital_digit, spaced_byte, spaced_bytes, HexReadsBack}
 
-digit_back : (d : ℕ) (b : Bool) → ltb d 10 ≡ b → d < 16 → digit_value (hex_digit d) ≡ d
+digit_back : (d : ℕ) (b : Bool) → ltb d 10 ≡ b → d < 16 → digit_value (capital_digit d) ≡ d
 digit_back d true e l =
     let low : 48 + d < 65 = omega (arith, ltb-true d 10 e) in
     rw (e, lt-ltb (48 + d) 65 low) (omega arith)
@@ -13,7 +13,7 @@ digit_back d false e l =
     let high : 65 ≤ 55 + d = omega (arith, ltb-false d 10 e) in
     rw (e, le-ltb (55 + d) 65 high) (omega arith)
 
-byte_back : (b : ℕ) → b < 256 → 16 * digit_value (hex_digit (b / 16)) + digit_value (hex_digit (b % 16)) ≡ b
+byte_back : (b : ℕ) → b < 256 → 16 * digit_value (capital_digit (b / 16)) + digit_value (capital_digit (b % 16)) ≡ b
 byte_back b l =
     let high : b / 16 < 16 = omega arith in
     let low : b % 16 < 16 = omega arith in

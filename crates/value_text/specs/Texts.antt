@@ -10,21 +10,21 @@ use Rattle.refusal.specs.declared.Refusal.{Refusal}
 use Rattle.refusal.specs.Numbers.{number_of}
 
 -- a hexadecimal digit: 0 to 9, A to F, as characters
-abbrev pub hex_digit : ℕ → ℕ
-hex_digit d = if nat_lt d 10 then 48 + d else 55 + d
+abbrev pub capital_digit : ℕ → ℕ
+capital_digit d = if nat_lt d 10 then 48 + d else 55 + d
 
 -- a byte, its high digit first
-abbrev pub hex_byte : ℕ → List ℕ
-hex_byte b = hex_digit (b / 16) ∷ hex_digit (b % 16) ∷ []
+abbrev pub capital_byte : ℕ → List ℕ
+capital_byte b = capital_digit (b / 16) ∷ capital_digit (b % 16) ∷ []
 
 -- with a blank before it
 abbrev pub spaced_byte : ℕ → List ℕ
-spaced_byte b = 32 ∷ hex_byte b
+spaced_byte b = 32 ∷ capital_byte b
 
 -- bytes in hexadecimal, with single blanks between them
 abbrev pub hex_of : List ℕ → List ℕ
 hex_of [] = []
-hex_of (b ∷ bs) = hex_byte b ++ flat_map spaced_byte bs
+hex_of (b ∷ bs) = capital_byte b ++ flat_map spaced_byte bs
 
 -- the two sync bits in the order of sending
 abbrev pub sync_text : Sync → List ℕ
@@ -41,8 +41,8 @@ seven_digits n =
     ++ (decimal (n / 4 % 2) ++ (decimal (n / 2 % 2) ++ decimal (n % 2))))))
 
 -- the number of the cause
-abbrev pub refused_text : Refusal → List ℕ
-refused_text cause = codes "refused with " ++ decimal (number_of cause)
+abbrev pub refusal_text : Refusal → List ℕ
+refusal_text cause = codes "refused with " ++ decimal (number_of cause)
 
 -- ok only for equal texts
 abbrev pub verdict_of : List ℕ → List ℕ → List ℕ

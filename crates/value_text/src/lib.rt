@@ -6,7 +6,7 @@
 
 ghost use Rattle.std.specs.Prelude.{◌≡◌, IfOk, Some, string_bytes};
 ghost use Rattle.std.specs.Fmt.{WritesOnOk};
-ghost use Rattle.value_text.specs.Texts.{HexReadsBack, SameTexts, block_text, hex_of, comparison_line, refused_text, sync_text, verdict_of};
+ghost use Rattle.value_text.specs.Texts.{HexReadsBack, SameTexts, block_text, comparison_line, hex_of, refusal_text, sync_text, verdict_of};
 
 use block::{Block, Sync};
 use refusal::Refusal;
@@ -100,7 +100,7 @@ pub fn block_text(alloc: Global, block: &Block) -> Result<String, AllocError>
 
 /// That a call was refused, and the number of the cause.
 pub fn refused(alloc: Global, cause: Refusal) -> Result<String, AllocError>
-    ensures { IfOk result (λ t. string_bytes t ≡ refused_text cause) }
+    ensures { IfOk result (λ t. string_bytes t ≡ refusal_text cause) }
 {
     format!(in alloc; "refused with {}", cause.number())
 }

@@ -12,7 +12,7 @@ use Rattle.packet.proofs.Blocks.{length_packet_blocks}
 use Rattle.message.specs.declared.Kind.{Kind}
 use Rattle.message.specs.Written.{message_answer, output_with_message}
 use Rattle.value_text.specs.Texts.{block_text}
-use Rattle.vector_values.specs.Values.{end_type, idles, made_text, packet_text, place_text}
+use Rattle.vector_values.specs.Values.{end_type_text, idles, made_text, packet_text, place_text}
 
 chosen : (a b : Bool) (m n : ℕ) (d e : Refusal) → ◌≡◌ {A = Result ℕ Refusal} (cond a (cond b (Ok m) (Err d)) (Err e)) (Ok n) → n ≡ m
 chosen true true m n d e h = cc
@@ -27,12 +27,12 @@ two_at_least p places n h =
     omega (arith, e, k)
 
 pub packet_is : (p : List ℕ) (w : Result ℕ Refusal) (n end : ℕ) (out : List Block) (idle : Block)
-    → w ≡ write_answer p 253 → w ≡ Ok n → idle ≡ idle_block → out ≡ leaves w (packet_blocks p) (replicate 253 idle) → end ≡ end_type out n
+    → w ≡ write_answer p 253 → w ≡ Ok n → idle ≡ idle_block → out ≡ leaves w (packet_blocks p) (replicate 253 idle) → end ≡ end_type_text out n
     → made_text n end ≡ packet_text (write_answer p 253) (leaves (write_answer p 253) (packet_blocks p) (idles 253))
 packet_is p w n end out idle h k i o e =
     let left : List Block = leaves (write_answer p 253) (packet_blocks p) (idles 253) in
     let same : out ≡ left = o ∙ ap₂ (λ (v : Result ℕ Refusal) (b : Block). leaves v (packet_blocks p) (replicate 253 b)) h i in
-    ap (made_text n) (e ∙ ap (λ (bs : List Block). end_type bs n) same)
+    ap (made_text n) (e ∙ ap (λ (bs : List Block). end_type_text bs n) same)
     ∙ ap (λ (v : Result ℕ Refusal). packet_text v left) (sym k ∙ h)
 
 pub place_is : (k : Kind) (vs : List ℕ) (w : Result ℕ Refusal) (n place : ℕ) (out : List Block) (idle d : Block)

@@ -15,7 +15,7 @@ use Rattle.packet.specs.Answers.{leaves, write_answer}
 use Rattle.packet.specs.Format.{packet_blocks}
 use Rattle.message.specs.declared.Kind.{Kind}
 use Rattle.message.specs.Written.{message_answer, output_with_message}
-use Rattle.value_text.specs.Texts.{block_text, hex_of, refused_text}
+use Rattle.value_text.specs.Texts.{block_text, hex_of, refusal_text}
 
 -- what an overhead can say: entry 0, no client, or a client number, and a frame number
 abbrev pub checked_fields : ℕ → ℕ → Result Fields Refusal
@@ -30,7 +30,7 @@ made_fields (Err cause) = Err cause
 -- the bytes of an overhead
 abbrev pub written_overhead : Result Fields Refusal → List ℕ
 written_overhead (Ok fields) = hex_of (overhead_bytes fields)
-written_overhead (Err cause) = refused_text cause
+written_overhead (Err cause) = refusal_text cause
 
 -- what an overhead is read as
 abbrev pub read_overhead : Result Fields OverheadFault → List ℕ
@@ -47,15 +47,15 @@ start_text s =
 -- where a slot begins
 abbrev pub slot_text : Result ℕ Refusal → List ℕ
 slot_text (Ok slot) = start_text (slot_start slot)
-slot_text (Err cause) = refused_text cause
+slot_text (Err cause) = refusal_text cause
 
 -- an output of so many idles
 abbrev pub idles : ℕ → List Block
 idles n = replicate n idle_block
 
 -- the first byte of the block before the last
-abbrev pub end_type : List Block → ℕ → ℕ
-end_type blocks count = slice_index (slice_index_or blocks (count - 2) idle_block).bytes 0
+abbrev pub end_type_text : List Block → ℕ → ℕ
+end_type_text blocks count = slice_index (slice_index_or blocks (count - 2) idle_block).bytes 0
 
 -- how many blocks a packet has, and the type of its end
 abbrev pub made_text : ℕ → ℕ → List ℕ
@@ -63,8 +63,8 @@ made_text count end = decimal count ++ (codes " blocks, end " ++ hex_of (end ∷
 
 -- a writer's answer and output, for a packet
 abbrev pub packet_text : Result ℕ Refusal → List Block → List ℕ
-packet_text (Ok count) blocks = made_text count (end_type blocks count)
-packet_text (Err cause) blocks = refused_text cause
+packet_text (Ok count) blocks = made_text count (end_type_text blocks count)
+packet_text (Err cause) blocks = refusal_text cause
 
 -- what `packet::write` makes of a packet, in an output of the most blocks that one has
 abbrev pub written_packet : List ℕ → List ℕ
@@ -76,7 +76,7 @@ written_packet p =
 abbrev pub place_text : Result ℕ Refusal → List Block → ℕ → List ℕ
 place_text (Ok count) blocks place =
     if nat_lt place count then block_text (slice_index_or blocks place idle_block) else codes "no block"
-place_text (Err cause) blocks place = refused_text cause
+place_text (Err cause) blocks place = refusal_text cause
 
 -- the block at a place of what `message::write` makes, in an output of the most blocks that a message has
 abbrev pub written_message : Kind → List ℕ → ℕ → List ℕ

@@ -10,7 +10,7 @@ ghost use Rattle.crc.specs.Remainder.{remainder};
 ghost use Rattle.numbers.specs.Range.{checked_number};
 ghost use Rattle.overhead.specs.Format.{fields_of, read_bytes};
 ghost use Rattle.value_text.specs.Texts.{seven_digits};
-ghost use Rattle.vector_values.specs.Values.{checked_fields, end_type, made_text, read_overhead, made_fields, slot_text, written_message, written_overhead, written_packet};
+ghost use Rattle.vector_values.specs.Values.{checked_fields, end_type_text, made_fields, made_text, read_overhead, slot_text, written_message, written_overhead, written_packet};
 
 use block::Block;
 use crc::Generator;
@@ -96,7 +96,7 @@ pub fn slot_text(alloc: Global, slot: u16) -> Result<String, AllocError>
 fn end_type(blocks: &[Block], count: usize) -> u8
     requires least { 2 ≤ count }
     requires most { count ≤ length blocks.now }
-    ensures { result ≡ end_type blocks.now count }
+    ensures { result ≡ end_type_text blocks.now count }
 {
     blocks[count - 2].bytes[0]
 }

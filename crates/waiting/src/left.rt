@@ -3,7 +3,7 @@
 ghost use Rattle.std.specs.Prelude.{◌≡◌, IfOk, Some};
 ghost use Rattle.message.specs.Kinds.{kind_of};
 ghost use Rattle.waiting.specs.Messages.{sort_of};
-ghost use Rattle.waiting.specs.Left.{left_after_delay, left_after_protection, delay_block, left_answer, left_after_leave, nothing_left, protection_block};
+ghost use Rattle.waiting.specs.Left.{delay_block, left_after_delay, left_after_leave, left_after_protection, left_answer, nothing_left, protection_block};
 
 use crate::Sort;
 use crate::message_waiting::MessageWaiting;
@@ -21,9 +21,9 @@ pub struct LeftMessages {
 
 impl Model for LeftMessages {
     ghost use Rattle.waiting.specs.Messages.{sort_of};
-    ghost use Rattle.waiting.specs.Left.{Left};
+    ghost use Rattle.waiting.specs.Left.{WaitingBySort};
 
-    ghost Value = { Left };
+    ghost Value = { WaitingBySort };
 
     ghost view = { λ l. record { delay = l.delay; protection = l.protection } };
 }

@@ -12,9 +12,9 @@ use Rattle.block.specs.Fixed.{start_block}
 use Rattle.overhead.specs.Laws.{changes}
 use Rattle.block.specs.declared.Pair.{Pair}
 use Rattle.overhead.specs.Format.{Fields}
-use Rattle.frame.specs.Frames.{Shaped}
+use Rattle.frame.specs.Frames.{IsFrameShape}
 use Rattle.whole_frame.specs.Meaning.{frame_written}
-use Rattle.whole_frame.specs.Laws.{Altered, Alterable}
+use Rattle.whole_frame.specs.Laws.{IsAltered, Alterable}
 use Rattle.whole_frame.proofs.Shape.{written_shaped, written_whole}
 
 same_weight : (bs : List Bool) → weight (xors bs bs) ≡ 0
@@ -61,7 +61,7 @@ one_changed bs h =
     ap₂ (λ (x y : List Bool). weight (xors x y)) was is ∙ turned_weight (get_or l 10 false) (take 45 (drop 11 l))
 
 pub alterable : (first head : Block) (rest : List Block) → length head.bytes ≡ 8 →
-    (let other : Block = record { sync = head.sync; bytes = packed_bytes 8 (turned (bits head.bytes)) } in Altered (first ∷ head ∷ rest) (first ∷ other ∷ rest))
+    (let other : Block = record { sync = head.sync; bytes = packed_bytes 8 (turned (bits head.bytes)) } in IsAltered (first ∷ head ∷ rest) (first ∷ other ∷ rest))
 alterable first head rest h = record {
   first = first;
   head = head;
@@ -89,7 +89,7 @@ second_there (a ∷ b ∷ rest) h = record { first = a; head = b; rest = rest; a
 
 pub some_altered : (f : Fields) (pairs : List Pair) → Alterable f pairs
 some_altered f pairs =
-    let s : Shaped (frame_written f pairs) = written_shaped f pairs in
+    let s : IsFrameShape (frame_written f pairs) = written_shaped f pairs in
     let t : Second (frame_written f pairs) = second_there (frame_written f pairs) s.many in
     let at : get_or (frame_written f pairs) 1 start_block ≡ t.head = ap (λ (bs : List Block). get_or bs 1 start_block) t.are in
     let eight : length t.head.bytes ≡ 8 =
@@ -97,5 +97,5 @@ some_altered f pairs =
     let other : Block = record { sync = t.head.sync; bytes = packed_bytes 8 (turned (bits t.head.bytes)) } in
     record {
       came = t.first ∷ other ∷ t.rest;
-      altered = subst (λ (bs : List Block). Altered bs (t.first ∷ other ∷ t.rest)) (sym t.are) (alterable t.first t.head t.rest eight);
+      altered = subst (λ (bs : List Block). IsAltered bs (t.first ∷ other ∷ t.rest)) (sym t.are) (alterable t.first t.head t.rest eight);
     }

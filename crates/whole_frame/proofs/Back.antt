@@ -15,7 +15,7 @@ use Rattle.overhead.proofs.Coding.{coded as overhead_coded, overhead_seven}
 use Rattle.frame.specs.Frames.{carried_by, frame_block, frame_of}
 use Rattle.frame.proofs.Frames.{frame_at, frame_carries}
 use Rattle.whole_frame.specs.Meaning.{content_with, frame_read, frame_written, overhead_read, pairs_read}
-use Rattle.whole_frame.specs.Laws.{Altered, FramesCoded, Sendable}
+use Rattle.whole_frame.specs.Laws.{IsAltered, FramesCoded, Sendable}
 use Rattle.payload.proofs.Payloads.{pairs_back}
 use Rattle.whole_frame.proofs.Shape.{written_shaped, written_whole}
 
@@ -53,7 +53,7 @@ head_begins o p a b rest h e =
     let head : b ≡ frame_block (o ++ p) 2 = sym (ap (λ (bs : List Block). get_or bs 1 start_block) e) ∙ frame_at (o ++ p) 1 start_block (omega arith) in
     ap (λ (x : Block). take 7 x.bytes) head ∙ take-take 7 8 (o ++ p) (omega arith) ∙ take_at o p 7 h
 
-seen : (f : Fields) (pairs : List Pair) (came : List Block) → Sendable f pairs → Altered (frame_written f pairs) came → frame_read came ≡ Err WrongRemainder
+seen : (f : Fields) (pairs : List Pair) (came : List Block) → Sendable f pairs → IsAltered (frame_written f pairs) came → frame_read came ≡ Err WrongRemainder
 unfolding frame_written
 seen f pairs came s t =
     let sent : take 7 t.head.bytes ≡ overhead_bytes f = head_begins (overhead_bytes f) (payload_of pairs) t.first t.head t.rest (overhead_seven f) t.was in

@@ -9,16 +9,16 @@ use Rattle.overhead.specs.Format.{Fields}
 use Rattle.overhead.specs.declared.OverheadFault.{OverheadFault}
 use Rattle.overhead.proofs.Coding.{in_range_read}
 use Rattle.frame.specs.Frames.{carried_by}
-use Rattle.whole_frame.specs.Meaning.{Content, content_with, frame_read, overhead_read, pairs_read}
+use Rattle.whole_frame.specs.Meaning.{FrameContent, content_with, frame_read, overhead_read, pairs_read}
 use Rattle.whole_frame.specs.Laws.{OnlySendable, SomeSendable}
 use Rattle.payload.proofs.Payloads.{pairs_whole}
 
 -- what an answer of both was read from
-record Beside (pairs : List Pair) (r : Result Fields OverheadFault) (c : Content) : Type 0 where
+record Beside (pairs : List Pair) (r : Result Fields OverheadFault) (c : FrameContent) : Type 0 where
   fields : r ≡ Ok c.fields
   same : pairs ≡ c.pairs
 
-content_ok : (pairs : List Pair) (r : Result Fields OverheadFault) (c : Content) → content_with pairs r ≡ Ok c → Beside pairs r c
+content_ok : (pairs : List Pair) (r : Result Fields OverheadFault) (c : FrameContent) → content_with pairs r ≡ Ok c → Beside pairs r c
 content_ok pairs (Ok f) c e = record { fields = cc; same = cc }
 content_ok pairs (Err w) c e = cc
 

@@ -15,14 +15,14 @@ use Rattle.block.specs.Whole.{Bytes, Whole}
 use Rattle.payload.specs.Payloads.{payload_of}
 use Rattle.overhead.specs.Format.{Fields, overhead_bytes}
 use Rattle.overhead.proofs.Coding.{coded as overhead_coded, overhead_seven}
-use Rattle.frame.specs.Frames.{Shaped, frame_block, frame_of}
+use Rattle.frame.specs.Frames.{IsFrameShape, frame_block, frame_of}
 use Rattle.frame.proofs.Carried.{frame_data}
 use Rattle.frame.proofs.Frames.{frame_at, frame_length, frame_shaped}
 use Rattle.whole_frame.specs.Meaning.{frame_written}
 use Rattle.whole_frame.specs.Laws.{AlteredShaped}
 use Rattle.payload.proofs.Payloads.{payload_is_bytes, payload_length}
 
-pub written_shaped : (f : Fields) (pairs : List Pair) → Shaped (frame_written f pairs)
+pub written_shaped : (f : Fields) (pairs : List Pair) → IsFrameShape (frame_written f pairs)
 unfolding frame_written
 written_shaped f pairs = frame_shaped (overhead_bytes f ++ payload_of pairs)
 
@@ -33,7 +33,7 @@ other_at a b c rest zero h = refl
 other_at a b c rest (suc zero) h = absurd (h refl)
 other_at a b c rest (suc (suc n)) h = refl
 
-same_shape : (a b c : Block) (rest : List Block) → Shaped (a ∷ b ∷ rest) → c.sync ≡ b.sync → Shaped (a ∷ c ∷ rest)
+same_shape : (a b c : Block) (rest : List Block) → IsFrameShape (a ∷ b ∷ rest) → c.sync ≡ b.sync → IsFrameShape (a ∷ c ∷ rest)
 same_shape a b c rest s e =
     let d : option_map class_of (Some b) ≡ Some Data = s.data_blocks 1 (omega arith) (omega arith) in
     let load : class_of b ≡ Data = cc in
@@ -49,7 +49,7 @@ same_shape a b c rest s e =
 
 pub altered_shaped : AlteredShaped
 altered_shaped sent came s t =
-    subst Shaped (sym t.is) (same_shape t.first t.head t.other t.rest (subst Shaped t.was s) t.sync)
+    subst IsFrameShape (sym t.is) (same_shape t.first t.head t.other t.rest (subst IsFrameShape t.was s) t.sync)
 
 -- ---- whole blocks
 more_bytes : (x : ℕ) (l : List ℕ) → x < 256 → Bytes l → Bytes (x ∷ l)

@@ -8,7 +8,7 @@ use Rattle.overhead.specs.declared.OverheadFault.{OverheadFault}
 use Rattle.frame.specs.Frames.{carried_by, frame_of}
 
 -- the fields of the overhead, and the pairs of slots 1 to 480
-pub record Content : Type 0 where
+pub record FrameContent : Type 0 where
   pub fields : Fields
   pub pairs : List Pair
 
@@ -17,7 +17,7 @@ unfoldable pub frame_written : Fields → List Pair → List Block
 frame_written f pairs = frame_of (overhead_bytes f ++ payload_of pairs)
 
 -- the pairs beside what the overhead was read as; the first fault of the overhead is that of the frame
-abbrev pub content_with : List Pair → Result Fields OverheadFault → Result Content OverheadFault
+abbrev pub content_with : List Pair → Result Fields OverheadFault → Result FrameContent OverheadFault
 content_with pairs (Ok f) = Ok (record { fields = f; pairs = pairs })
 content_with pairs (Err e) = Err e
 
@@ -30,5 +30,5 @@ unfoldable pub pairs_read : List Block → List Pair
 pairs_read blocks = pairs_of (drop 7 (carried_by blocks))
 
 -- what a frame's blocks are read as, whatever their sync bits and types
-unfoldable pub frame_read : List Block → Result Content OverheadFault
+unfoldable pub frame_read : List Block → Result FrameContent OverheadFault
 frame_read blocks = content_with (pairs_read blocks) (overhead_read blocks)

@@ -1,7 +1,7 @@
 use Rattle.std.proofs.Common.{◌≡◌, ℕ, ◌+◌, List, ◌++◌, get_or, set, sym, ap, ◌∙◌, subst, arith, below_more}
 use Rattle.std.proofs.lemmas.List.{get_or-set_other, get_or-set_same, length-set}
 use Rattle.block.specs.declared.Block.{Block}
-use Rattle.frame.specs.Frames.{Shaped, carried_by, frame_block, frame_of}
+use Rattle.frame.specs.Frames.{IsFrameShape, carried_by, frame_block, frame_of}
 use Rattle.frame.proofs.Carried.{blank}
 use Rattle.frame.proofs.Frames.{frame_carries, frame_is, frame_shaped}
 use Rattle.frame.proofs.assemble.Goals as goal
@@ -24,6 +24,6 @@ returns c =
     let made : c.loop-i.blocks ≡ frame_of F = frame_is F c.loop-i.blocks blank c.loop-i.invariant.0 (λ i h. c.loop-i.invariant.1 i (omega arith)) in
     record {
       made = made;
-      shaped = subst Shaped (sym made) (frame_shaped F);
+      shaped = subst IsFrameShape (sym made) (frame_shaped F);
       undone = ap carried_by made ∙ frame_carries F;
     }

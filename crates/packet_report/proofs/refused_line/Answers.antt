@@ -2,16 +2,16 @@ use Rattle.std.proofs.Common.{◌≡◌, true, leb, length, codes, decimal, sym,
 use Rattle.std.proofs.lemmas.Bool.{leb-true}
 use Rattle.text_out.specs.Wrote.{Puts, Wrote}
 use Rattle.text_out.proofs.Laid.{puts_more, puts_parts, puts_whole, wrote_as}
-use Rattle.packet_report.specs.Texts.{refused_text, room_for}
+use Rattle.packet_report.specs.Texts.{refused_line_text, report_room}
 use Rattle.packet_report.proofs.Writes.{short_refused, written_answer, written_over}
 use Rattle.packet_report.proofs.refused_line.Goals as goal
 
 pub returns : goal.returns
-unfolding refused_text
+unfolding refused_line_text
 returns c =
-    let text = refused_text c.args.line c.args.cause in
-    let fits : leb (room_for 0) (length c.args.out.now) ≡ true = sym c.has_room.ensures ∙ c.if-not-has_room.false in
-    let room = leb-true (room_for 0) (length c.args.out.now) fits in
+    let text = refused_line_text c.args.line c.args.cause in
+    let fits : leb (report_room 0) (length c.args.out.now) ≡ true = sym c.has_room.ensures ∙ c.if-not-has_room.false in
+    let room = leb-true (report_room 0) (length c.args.out.now) fits in
     let short = short_refused c.args.line c.args.cause (omega arith) (omega arith) in
     let puts : Puts 0 text c.args.out.now c.put_number-2.new.self.places.now c.put_number-2.new.self.len =
     rw (← c.new-text.ensures.places, ← c.new-text.ensures.empty)

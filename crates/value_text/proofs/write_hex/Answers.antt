@@ -2,7 +2,7 @@ use Rattle.std.proofs.Common.{◌≡◌, ℕ, List, [], ◌∷◌, ◌++◌, ◌
 use Rattle.std.proofs.lemmas.List.{take_all}
 use Rattle.std.proofs.Output.{has_written_append, has_written_of_eq, writes_in_calls_nil}
 use Rattle.std.specs.Fmt.{HasWritten, option_append}
-use Rattle.value_text.specs.Texts.{hex_byte, hex_of}
+use Rattle.value_text.specs.Texts.{capital_byte, hex_of}
 use Rattle.value_text.proofs.HexTexts.{byte_output, one_more}
 use Rattle.value_text.proofs.write_hex.Goals as goal
 
@@ -19,7 +19,7 @@ loop-i-preserved g c = λ plain.
     let fits : byte < 256 = search (rules, c.type_inv.bytes c.loop-i.i) in
     let output = ap (option_append (Some blank)) (byte_output _ byte fits c.in_radix.ensures) in
     let writes = rw (c.laid_out.ensures, output) at c.in_ok-write.ensures.writes in
-    let w : HasWritten g.W.Write.write_str_gives c.loop-i.f (blank ++ hex_byte byte) c.write.new.self = writes so_far.plain refl in
+    let w : HasWritten g.W.Write.write_str_gives c.loop-i.f (blank ++ capital_byte byte) c.write.new.self = writes so_far.plain refl in
     has_written_of_eq _ _ _ _ _ (one_more c.args.bytes.now c.loop-i.i blank c.loop-i-test.true none one)
     (has_written_append _ _ _ _ _ _ so_far w)
 

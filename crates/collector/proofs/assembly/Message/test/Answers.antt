@@ -1,7 +1,7 @@
 use Rattle.std.proofs.Common.{ℕ, ◌*◌, take, ap, ◌∙◌}
 use Rattle.bits.specs.Bits.{bits}
 use Rattle.message.specs.Values.{crc12}
-use Rattle.collector.specs.Content.{Content}
+use Rattle.collector.specs.Content.{MessageContent}
 use Rattle.collector.proofs.Extends.{remainder_is, is_whole, is_wrong}
 use Rattle.collector.proofs.assembly.Message.test.Goals as goal
 
@@ -11,7 +11,7 @@ returns-then-remainder-eq0 c =
     (remainder_is c.self.inside.values c.remainder.result c.blocks-bits.result c.degree_twelve.result.degree c.degree_twelve.result.terms
     c.remainder.ensures.value c.degree_twelve.ensures.degree c.degree_twelve.ensures.terms
     ∙ ap (λ (n : ℕ). crc12 (bits (take (2 * n) c.self.inside.values))) c.blocks-bits.ensures
-    ∙ ap (λ (u : Content). crc12 (bits u.values)) c.self.view_is)
+    ∙ ap (λ (u : MessageContent). crc12 (bits u.values)) c.self.view_is)
     c.if-remainder-eq0.true
 
 pub returns-else-remainder-eq0 : goal.returns-else-remainder-eq0
@@ -20,5 +20,5 @@ returns-else-remainder-eq0 c =
     (remainder_is c.self.inside.values c.remainder.result c.blocks-bits.result c.degree_twelve.result.degree c.degree_twelve.result.terms
     c.remainder.ensures.value c.degree_twelve.ensures.degree c.degree_twelve.ensures.terms
     ∙ ap (λ (n : ℕ). crc12 (bits (take (2 * n) c.self.inside.values))) c.blocks-bits.ensures
-    ∙ ap (λ (u : Content). crc12 (bits u.values)) c.self.view_is)
+    ∙ ap (λ (u : MessageContent). crc12 (bits u.values)) c.self.view_is)
     c.if-remainder-eq0.false
