@@ -12,7 +12,7 @@ ghost use Rattle.packet_lines.specs.Texts.{bad_text, error_text};
 ghost use Rattle.packet_lines.specs.Reading.{IsReason, bad_or, blocks_brought, first_bad, joined_lists, lists_of, packet_of};
 
 use calendar::Calendar;
-use client_queues::{AddError, ClientQueues};
+use client_queues::ClientQueues;
 use form::cut_line;
 use numbers::ClientNumber;
 use packet::is_packet_length;
