@@ -91,7 +91,9 @@ impl Sender {
         question.answer(received, sent, &mut self.messages)
     }
 
-    // Begins what stands next in the schedule, between frames.
+    // Begins what stands next in the schedule, between frames. A call of its own: inlined, it makes every send save and restore registers
+    // that only it uses.
+    #[inline(never)]
     #[tactic(auto, unfolding(sending::specs::Sender::item_result, sending::specs::Sender::frame_result))]
     fn begin_item<I: Inlet>(&mut self, inlet: &mut I) -> Block
         requires { self.old.state.rest ≡ [] }
