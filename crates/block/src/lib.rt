@@ -138,7 +138,9 @@ impl Block {
         }
     }
 
+    // Inlined in each caller, so that no call stands between a data block and its sync bits.
     /// What the block is, by its sync bits and its type.
+    #[inline(always)]
     pub fn class(&self) -> Class
         ensures { result ≡ class_of self.now }
     {
