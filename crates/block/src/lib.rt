@@ -181,9 +181,7 @@ impl Block {
     }
 }
 
-// The class of a control block, by its type. Never inlined, so that `Block::class` stays small enough to be inlined itself, where a data
-// block is told by its sync bits alone.
-#[inline(never)]
+// The class of a control block, by its type.
 fn control_class(bytes: &[u8; 8]) -> Class
     ensures { result ≡ control_class bytes.now }
 {

@@ -66,7 +66,7 @@ under_way_held g before k us U =
     let goes : goes_kind g (Some k) ≡ true
     = last_goes g (U.front ++ message_parts k us') (part_at k m x y) (subst (AllGo g) ends (own_go g before)) in
     let all : take (2 * i) us ≡ us = take_all (2 * i) us (omega arith) in
-    let c : Option Content = coll g new_state in
+    let c : Option MessageContent = coll g new_state in
     coll_run g new_state before
     ∙ ap (advances g c) U.is
     ∙ advances_append g c U.front (message_parts k us)

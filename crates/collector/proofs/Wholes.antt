@@ -130,7 +130,7 @@ arrived s before b k us h =
     let is : b ≡ part_at k m x y = two.1 in
     let kind : b.kind ≡ Some k = ap (λ (z : MessageBlock). z.kind) is in
     let goes : goes_kind g (Some k) ≡ true = ap (goes_kind g) (sym kind) ∙ h.goes in
-    let c : Option Content = coll g (state_after s before) in
+    let c : Option MessageContent = coll g (state_after s before) in
     let there : c ≡ advances g (advances g (coll g s) front) (message_parts k us')
     = coll_run g s before ∙ ap (advances g (coll g s)) two.0 ∙ advances_append g (coll g s) front (message_parts k us') in
     record {
@@ -160,7 +160,7 @@ whole_found s before b k us places h =
 pub corrupt_found : (s : CollectorState) (before : List CollectorCall) (b : MessageBlock) (k : Kind) (ws : List ℕ)
     → Arrives before b k ws → (crc12 (bits ws) ≡ 0 → ⊥) → (report_of (state_after s before) b).found ≡ Err WrongRemainder
 corrupt_found s before b k ws h bad =
-    let S : State = state_after s before in
+    let S : CollectorState = state_after s before in
     let T : Tested S b k ws = arrived s before b k ws h in
     ap (λ (x : Option Kind). (report_kind x S b).found) T.kind
     ∙ ap (λ (t : Bool). (cond t (report_basic b) (report_part k S b)).found) T.other

@@ -40,7 +40,7 @@ with_block u b = record { kind = u.kind; values = u.values ++ b.first ∷ b.seco
 
 abbrev pub extended_outcome : MessageContent → MessageBlock → Outcome
 extended_outcome u b =
-    let more : Content = with_block u b in
+    let more : MessageContent = with_block u b in
     marked_outcome more b.ends (length more.values == 2 * block_count_of u.kind)
 
 -- without a start mark, a block goes on with a message of its own kind

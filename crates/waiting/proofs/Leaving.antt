@@ -66,12 +66,12 @@ pub delay_left : (l : WaitingBySort) (k : Kind) (vs : List ℕ) (d : WaitingMess
     → d ≡ (if lawful k vs then (if waits l.delay then l.delay else record { blocks = message_blocks k (filled_values vs); gone = 0 }) else l.delay)
     → record { delay = d; protection = l.protection } ≡ after_message l (message_of_kind k vs)
 delay_left l k vs d e h =
-    let set : WaitingMessage → Left = λ x. record { delay = x; protection = l.protection } in
+    let set : WaitingMessage → WaitingBySort = λ x. record { delay = x; protection = l.protection } in
     ap set h ∙ delay_then l (lawful k vs) (waits l.delay) _ ∙ sym (ap (after_message l) (message_is k Delay vs e) ∙ left_either l (lawful k vs) (waits l.delay) _ refl)
 
 pub protection_left : (l : WaitingBySort) (k : Kind) (vs : List ℕ) (d : WaitingMessage) → sort_of k ≡ Some Protection
     → d ≡ (if lawful k vs then (if waits l.protection then l.protection else record { blocks = message_blocks k (filled_values vs); gone = 0 }) else l.protection)
     → record { delay = l.delay; protection = d } ≡ after_message l (message_of_kind k vs)
 protection_left l k vs d e h =
-    let set : WaitingMessage → Left = λ x. record { delay = l.delay; protection = x } in
+    let set : WaitingMessage → WaitingBySort = λ x. record { delay = l.delay; protection = x } in
     ap set h ∙ protection_then l (lawful k vs) (waits l.protection) _ ∙ sym (ap (after_message l) (message_is k Protection vs e) ∙ left_either l (lawful k vs) (waits l.protection) _ refl)

@@ -17,27 +17,27 @@ returns-in-None-clause-left c =
 pub returns-in-Some-Delay-clause-answer : goal.returns-in-Some-Delay-clause-answer
 returns-in-Some-Delay-clause-answer c =
     let sort : sort_of c.args.kind ≡ Some Delay = sym c.sort_of.ensures ∙ c.in-Some-Delay.is ∙ ap Some c.in-Some-Delay.field-0-is in
-    let l : Left = record { delay = c.self.inside.delay; protection = c.self.inside.protection } in
+    let l : WaitingBySort = record { delay = c.self.inside.delay; protection = c.self.inside.protection } in
     c.leave.ensures.answer ∙ sym (answer_is l c.args.kind Delay c.args.values.now sort)
     ∙ ap (λ (x : WaitingBySort). answer_by x (message_of_kind c.args.kind c.args.values.now)) c.self.view_is
 
 pub returns-in-Some-Delay-clause-left : goal.returns-in-Some-Delay-clause-left
 returns-in-Some-Delay-clause-left c =
     let sort : sort_of c.args.kind ≡ Some Delay = sym c.sort_of.ensures ∙ c.in-Some-Delay.is ∙ ap Some c.in-Some-Delay.field-0-is in
-    let l : Left = record { delay = c.self.inside.delay; protection = c.self.inside.protection } in
+    let l : WaitingBySort = record { delay = c.self.inside.delay; protection = c.self.inside.protection } in
     delay_left l c.args.kind c.args.values.now c.leave.new.self sort c.leave.ensures.after
     ∙ ap (λ (x : WaitingBySort). after_message x (message_of_kind c.args.kind c.args.values.now)) c.self.view_is
 
 pub returns-in-Some-Protection-clause-answer : goal.returns-in-Some-Protection-clause-answer
 returns-in-Some-Protection-clause-answer c =
     let sort : sort_of c.args.kind ≡ Some Protection = sym c.sort_of.ensures ∙ c.in-Some-Protection.is ∙ ap Some c.in-Some-Protection.field-0-is in
-    let l : Left = record { delay = c.self.inside.delay; protection = c.self.inside.protection } in
+    let l : WaitingBySort = record { delay = c.self.inside.delay; protection = c.self.inside.protection } in
     c.leave-in-Some-Protection.ensures.answer ∙ sym (answer_is l c.args.kind Protection c.args.values.now sort)
     ∙ ap (λ (x : WaitingBySort). answer_by x (message_of_kind c.args.kind c.args.values.now)) c.self.view_is
 
 pub returns-in-Some-Protection-clause-left : goal.returns-in-Some-Protection-clause-left
 returns-in-Some-Protection-clause-left c =
     let sort : sort_of c.args.kind ≡ Some Protection = sym c.sort_of.ensures ∙ c.in-Some-Protection.is ∙ ap Some c.in-Some-Protection.field-0-is in
-    let l : Left = record { delay = c.self.inside.delay; protection = c.self.inside.protection } in
+    let l : WaitingBySort = record { delay = c.self.inside.delay; protection = c.self.inside.protection } in
     protection_left l c.args.kind c.args.values.now c.leave-in-Some-Protection.new.self sort c.leave-in-Some-Protection.ensures.after
     ∙ ap (λ (x : WaitingBySort). after_message x (message_of_kind c.args.kind c.args.values.now)) c.self.view_is
