@@ -8,7 +8,7 @@ use Rattle.block.specs.declared.Sync.{Sync}
 use Rattle.block.specs.declared.Sync.TheVariants.{Zeros, Control, Data, Ones}
 use Rattle.block.specs.Syncs.{sync_number, sync_of}
 use Rattle.block.specs.declared.Pair.{Pair}
-use Rattle.bench.specs.Filled.{counted_block, next_seed, pairs_from}
+use Rattle.bench.specs.Filled.{counted_block, next, pairs_from}
 
 -- sync bits are told by their number
 by_number : (s : Sync) → s ≡ sync_of (sync_number s)
@@ -25,7 +25,7 @@ sync_is s n e =
 
 -- one pair more
 pub filled_more : (ps whole : List Pair) (k x f y : ℕ) (a b : Block) → k < length ps → k < 480
-    → f ≡ next_seed x → y ≡ next_seed f → a ≡ counted_block f → b ≡ counted_block y
+    → f ≡ next x → y ≡ next f → a ≡ counted_block f → b ≡ counted_block y
     → take k ps ++ pairs_from x (480 - k) ≡ whole → take (k + 1) (set ps k (record { first = a; second = b })) ++ pairs_from y (480 - (k + 1)) ≡ whole
 unfolding pairs_from
 filled_more ps whole k x f y a b room small ef ey ea eb e =
@@ -34,7 +34,7 @@ filled_more ps whole k x f y a b room small ef ey ea eb e =
     let pair : Block → Block → Pair = λ u v. record { first = u; second = v } in
     let rest : pairs_from x (480 - k) ≡ p ∷ pairs_from y (480 - (k + 1))
     = ap (pairs_from x) n
-    ∙ ap (λ (z : ℕ). pair (counted_block z) (counted_block (next_seed z)) ∷ pairs_from (next_seed z) (480 - (k + 1))) (sym ef)
+    ∙ ap (λ (z : ℕ). pair (counted_block z) (counted_block (next z)) ∷ pairs_from (next z) (480 - (k + 1))) (sym ef)
     ∙ ap (λ (z : ℕ). pair (counted_block f) (counted_block z) ∷ pairs_from z (480 - (k + 1))) (sym ey)
     ∙ ap₂ (λ (u v : Block). pair u v ∷ pairs_from y (480 - (k + 1))) (sym ea) (sym eb) in
     rw (take_more_set ps k p room, append_assoc) (ap (λ (l : List Pair). take k ps ++ l) (sym rest) ∙ e)

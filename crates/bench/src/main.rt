@@ -6,7 +6,7 @@
 #![tactic(auto)]
 
 ghost use Rattle.std.specs.Prelude.{◌≡◌, ◌*◌, fold};
-ghost use Rattle.bench.specs.Filled.{counted_block, next_seed, pairs_from};
+ghost use Rattle.bench.specs.Filled.{counted_block, next, pairs_from};
 ghost use Rattle.bench.specs.Sums.{sum_with};
 ghost use Rattle.payload.specs.Payloads.{pairs_of, payload_of};
 
@@ -21,7 +21,7 @@ const ROUNDS: usize = 10_000;
 // The next of a sequence of numbers of many bits (xorshift).
 #[tactic(auto, unfolding(crate::specs::Filled::next))]
 fn next(x: u64) -> u64
-    ensures { result ≡ next_seed x }
+    ensures { result ≡ next x }
 {
     let a = x ^ x << 13;
     let b = a ^ a >> 7;
