@@ -8,9 +8,11 @@
 ghost use Rattle.std.specs.Prelude.{◌≡◌, ◌*◌, fold};
 ghost use Rattle.bench.specs.Filled.{counted_block, next, pairs_from};
 ghost use Rattle.bench.specs.Sums.{sum_with};
+ghost use Rattle.numbers.specs.Range.{slots};
 ghost use Rattle.payload.specs.Payloads.{pairs_of, payload_of};
 
 use block::{Block, Pair, Sync};
+use numbers::SLOTS;
 use payload::{Payload, pack, unpack};
 use std::io;
 use std::time::{Duration, Instant};
@@ -40,8 +42,8 @@ fn block(x: u64) -> Block
 }
 
 // Pairs of many bits, the same at each run.
-fn fill(pairs: &mut [Pair; 480])
-    ensures { pairs.new ≡ pairs_from 88172645463325252 480 }
+fn fill(pairs: &mut [Pair; SLOTS])
+    ensures { pairs.new ≡ pairs_from 88172645463325252 slots }
 {
     let mut x = 88172645463325252;
     for pair in pairs.iter_mut() {
@@ -57,7 +59,7 @@ fn fill(pairs: &mut [Pair; 480])
 // Packs again and again, and answers the number of blocks that so many rounds move.
 // This and `unpack_rounds` are two, since they differ in the byte changed and in the buffer made: one over a closure has only the count
 // in common.
-fn pack_rounds(pairs: &mut [Pair; 480], payload: &mut Payload) -> u64
+fn pack_rounds(pairs: &mut [Pair; SLOTS], payload: &mut Payload) -> u64
     ensures moved { result ≡ 9600000 }
     ensures packed { payload.new ≡ payload_of pairs.new }
 {
@@ -65,7 +67,7 @@ fn pack_rounds(pairs: &mut [Pair; 480], payload: &mut Payload) -> u64
     let mut moved = 960;
     // a count of rounds, here and in `unpack_rounds`: nothing is walked
     for round in 1..ROUNDS {
-        pairs[round % 480].first.bytes[0] ^= payload[round % 7920];
+        pairs[round % SLOTS].first.bytes[0] ^= payload[round % 7920];
         pack(pairs, payload);
         moved += 960;
     }
@@ -73,14 +75,14 @@ fn pack_rounds(pairs: &mut [Pair; 480], payload: &mut Payload) -> u64
 }
 
 // Unpacks again and again, and answers the number of blocks that so many rounds move.
-fn unpack_rounds(payload: &mut Payload, pairs: &mut [Pair; 480]) -> u64
+fn unpack_rounds(payload: &mut Payload, pairs: &mut [Pair; SLOTS]) -> u64
     ensures moved { result ≡ 9600000 }
     ensures unpacked { pairs.new ≡ pairs_of payload.new }
 {
     unpack(payload, pairs);
     let mut moved = 960;
     for round in 1..ROUNDS {
-        payload[round % 7920] ^= pairs[round % 480].second.bytes[7];
+        payload[round % 7920] ^= pairs[round % SLOTS].second.bytes[7];
         unpack(payload, pairs);
         moved += 960;
     }
@@ -106,7 +108,7 @@ fn main(rt: HostRuntime) -> io::Result<()> {
     let mut pairs = [Pair {
         first: Block::idle(),
         second: Block::idle(),
-    }; 480];
+    }; SLOTS];
     let mut payload = [0u8; 7920];
     fill(&mut pairs);
     let start = Instant::now(&rt)?;

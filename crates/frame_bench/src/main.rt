@@ -7,7 +7,7 @@ ghost use Rattle.frame.specs.Frames.{carried_by, frame_of};
 
 use block::{Block, Class, Pair, Sync};
 use frame::{OverheadBytes, assemble, take_apart};
-use numbers::{ClientNumber, FrameNumber, SlotNumber};
+use numbers::{ClientNumber, FrameNumber, SLOTS, SlotNumber};
 use overhead::Overhead;
 use payload::Payload;
 use std::io;
@@ -128,18 +128,19 @@ fn store_rounds(blocks: &mut [Block; 992], overhead: &mut OverheadBytes, payload
     }
 }
 
-// The overhead of a round, of another client each time.
-fn overhead_of(round: usize) -> Option<Overhead> {
-    let announced = ClientNumber::from_entry((round % 481) as u16).ok()?;
-    let frame = FrameNumber::try_from((round % 480) as u16).ok()?;
-    Some(Overhead { announced, frame })
+// The overhead of a round: of another client each time, and of none in the first round and in each 481st behind it.
+fn overhead_of(round: usize, frame: FrameNumber) -> Overhead {
+    Overhead {
+        announced: ClientNumber::from_index((round % (SLOTS + 1) + SLOTS) % (SLOTS + 1)),
+        frame,
+    }
 }
 
 fn send_rounds(outgoing: &mut Outgoing, blocks: &mut [Block; 992]) {
+    let mut frame = FrameNumber::first();
     for round in 0..ROUNDS {
-        if let Some(overhead) = overhead_of(round) {
-            outgoing.begin(overhead);
-        }
+        outgoing.begin(overhead_of(round, frame));
+        frame = frame.next();
         for place in blocks.iter_mut() {
             // By parts: copied whole, a block that a call returned waits for the stores of its bytes.
             if let Some(block) = send(outgoing) {

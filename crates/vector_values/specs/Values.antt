@@ -4,6 +4,7 @@ use Rattle.block.specs.declared.Block.{Block}
 use Rattle.block.specs.Fixed.{idle_block}
 use Rattle.refusal.specs.declared.Refusal.{Refusal}
 use Rattle.refusal.specs.declared.Refusal.TheVariants.{OutOfRange}
+use Rattle.numbers.specs.Range.{slots}
 use Rattle.overhead.specs.declared.OverheadFault.{OverheadFault}
 use Rattle.overhead.specs.declared.OverheadFault.TheVariants.{WrongRemainder, ClientTooHigh, FrameTooHigh}
 use Rattle.overhead.specs.declared.Overhead.{Overhead}
@@ -20,7 +21,7 @@ use Rattle.value_text.specs.Texts.{block_text, hex_of, refusal_text}
 -- what an overhead can say: entry 0, no client, or a client number, and a frame number
 abbrev pub checked_fields : ℕ → ℕ → Result Fields Refusal
 checked_fields entry frame =
-    if nat_le entry 480 then if nat_le 480 frame then Err OutOfRange else Ok (overhead entry frame) else Err OutOfRange
+    if nat_le entry slots then if nat_le slots frame then Err OutOfRange else Ok (overhead entry frame) else Err OutOfRange
 
 -- what is said by the overhead that is made
 abbrev pub made_fields : Result Overhead Refusal → Result Fields Refusal
