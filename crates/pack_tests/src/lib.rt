@@ -25,7 +25,9 @@ mod tests {
         for block in blocks.iter_mut() {
             *block = next_read(line)?;
         }
-        let overhead = whole_frame::read_frame(&blocks, payload).ok().ok_or("no frame")?;
+        let overhead = whole_frame::read_frame(&blocks, payload)
+            .ok()
+            .ok_or("no frame")?;
         Ok(overhead.frame.number())
     }
 
