@@ -9,6 +9,7 @@ use calendar::Calendar;
 use numbers::{ClientNumber, SlotNumber};
 use port::Outlet;
 use sender::Sender;
+use std::hint::black_box;
 use std::io;
 use std::time::Instant;
 
@@ -72,7 +73,7 @@ fn send_tenth(sender: &mut Sender, bank: &mut Bank, start: (u64, u64)) -> (u64, 
     for _ in 0..ROUNDS {
         x = fill(bank, x);
         for _ in 0..SENDS {
-            sum = with_block(sum, &sender.send(bank));
+            sum = with_block(sum, &black_box(sender.send(bank)));
         }
     }
     (x, sum)
