@@ -1,3 +1,4 @@
 pub mod SlotsLaid
 pub mod Behind
 pub mod Own
+pub mod Refused

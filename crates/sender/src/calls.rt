@@ -6,6 +6,7 @@ ghost use Rattle.calendar.specs.Entries.{entries_of};
 ghost use Rattle.collector.specs.Reply.{reply_answer, reply_values};
 ghost use Rattle.message.specs.Kinds.{kind_of};
 ghost use Rattle.message.specs.declared.Kind.TheVariants.{TwoDmr};
+ghost use Rattle.refusal.specs.declared.Refusal.TheVariants.{MessageWaits};
 ghost use Rattle.sending.specs.Life.{Lengthens, leave, made, send, state_of};
 ghost use Rattle.sending.specs.Messages.{cs_block, cv_block};
 ghost use Rattle.sending.specs.Laid.{lists_after_frame};
@@ -85,6 +86,7 @@ impl Sender {
     ) -> Result<(), (Refusal, Question)>
         ensures answer { reply_answer result ≡ leave_answer self.old.state (Some TwoDmr) (reply_values question.time received sent) }
         ensures sender { self.new ≡ with_state self.old (state_after_leave self.old.state (Some TwoDmr) (reply_values question.time received sent)) }
+        ensures only { IfErr result (λ e. e.0 ≡ MessageWaits) }
         ensures back { IfErr result (λ e. e.1 ≡ question) }
         ensures life { Lengthens self.old (leave (Some TwoDmr) (reply_values question.time received sent)) self.new [] }
     {

@@ -18,7 +18,7 @@ use Rattle.message.specs.Written.{message_block_at, basic_block, message_blocks}
 use Rattle.message.proofs.ReadBacks.{read_back}
 use Rattle.message.proofs.Writes.{some_blocks}
 use Rattle.message.proofs.Laws.{laws}
-use Rattle.sending.specs.Blocks.{is_start_block, is_idle_block}
+use Rattle.sending.specs.Blocks.{is_start_block, is_end_block, is_idle_block}
 use Rattle.sending.specs.Messages.{is_message, cv_block, cs_block}
 use Rattle.waiting.specs.Messages.{sort_of, MessageToSend, message_of_kind, message_to_send}
 use Rattle.waiting.specs.declared.Sort.{Sort}
@@ -108,7 +108,7 @@ pub to_send_sound : (k : Option Kind) (vs : List ℕ) (x : MessageToSend) → me
 to_send_sound None vs x e = absurd (cc)
 to_send_sound (Some k) vs x e = made_by k vs x e
 
--- ---- no message is a start or an idle
+-- ---- no message is a start, an end or an idle
 option_true : (o : Option MessageBlock) → elim o [ None ↦ false | Some m ↦ true ] ≡ true → (m : MessageBlock) × (o ≡ Some m)
 option_true None e = absurd (both_ways false refl e)
 option_true (Some m) e = (m, refl)
@@ -150,3 +150,17 @@ pub gap_no_start : (b : Block) → IdleOrMessage b → is_start_block b ≡ fals
 unfolding is_start_block
 gap_no_start b (inl e) = rw e refl
 gap_no_start b (inr h) = no_start b.sync b.bytes h
+
+no_end : (s : Sync) (bytes : List ℕ) → is_message (of s bytes) ≡ true → is_end_block (of s bytes) ≡ false
+unfolding is_message is_end_block
+no_end Zeros bytes h = refl
+no_end Control bytes h =
+    let o = option_true (message_in_bytes bytes) h in
+    rw (said_type bytes o.0 o.1) refl
+no_end Data bytes h = refl
+no_end Ones bytes h = refl
+
+pub gap_no_end : (b : Block) → IdleOrMessage b → is_end_block b ≡ false
+unfolding is_end_block
+gap_no_end b (inl e) = rw e refl
+gap_no_end b (inr h) = no_end b.sync b.bytes h

@@ -15,10 +15,10 @@ use Rattle.waiting.specs.Messages.{message_to_send}
 use Rattle.sending.specs.Laid.{pairs_for, room_for}
 use Rattle.sending.specs.Sender.{SenderSetup, SenderState, frame_result, item_result, send_result_by, frame_due, frame_begins_by, accepted_message}
 use Rattle.sending.specs.Life.{Life, LineItem, frame, gap, made, followed, send, leave, state_of, items_begun_by, items}
-use Rattle.sending.specs.LineLaws.{Each, StandsInPlace, FrameStands, GapStands, ItemsInPlace, NoStart, GapsNeverStart, IdleOrMessage, blocks_of_items, frame_count, CyclesWhole}
+use Rattle.sending.specs.LineLaws.{Each, StandsInPlace, FrameStands, GapStands, ItemsInPlace, NoStart, GapsNeverStart, NoEnd, GapsNeverEnd, IdleOrMessage, blocks_of_items, frame_count, CyclesWhole}
 use Rattle.sending.specs.ClientLaws.{FillsSlots, SlotsFilled, Carries, FramesCarry, blocks_given_for, TakesWaiting, GivenLeaves, OthersKeep}
 use Rattle.sending.proofs.Frames.{length-frame_written}
-use Rattle.sending.proofs.Codes.{basic_message, cv_sort, cs_sort, gap_no_start}
+use Rattle.sending.proofs.Codes.{basic_message, cv_sort, cs_sort, gap_no_start, gap_no_end}
 use Rattle.sending.proofs.Steps.{Begins, a_frame, a_gap, begins, message_kept}
 use Rattle.sending.proofs.Counts.{Counted, counted_none, due_item, counted_frame, counted_gap, counted_kept}
 use Rattle.sending.proofs.Gaps.{Sound, sound_none, sound_item, sound_more, sound_leave, gap_stands}
@@ -143,6 +143,13 @@ stands_no_start m i (gap b) h = gap_no_start b (gap_idle_or_message m i b h)
 
 pub gaps_never_start : GapsNeverStart
 gaps_never_start m l = each_map (StandsInPlace m) (λ i x. NoStart x) (stands_no_start m) 0 (items m l) (standing m l).stands
+
+stands_no_end : (m : SenderSetup) (i : ℕ) (x : LineItem) → StandsInPlace m i x → NoEnd x
+stands_no_end m i (frame f) h = tt
+stands_no_end m i (gap b) h = gap_no_end b (gap_idle_or_message m i b h)
+
+pub gaps_never_end : GapsNeverEnd
+gaps_never_end m l = each_map (StandsInPlace m) (λ i x. NoEnd x) (stands_no_end m) 0 (items m l) (standing m l).stands
 
 -- ---- at a send
 module _ (m : SenderSetup) (s : SenderState) (w : Lists) (k : ℕ) where

@@ -9,7 +9,7 @@ use Rattle.schedule.specs.declared.Item.TheVariants.{Frame as FrameItem, Idle, B
 use Rattle.schedule.specs.Cycle.{item_at, frames_before}
 use Rattle.whole_frame.specs.Meaning.{frame_written}
 use Rattle.sending.specs.Frames.{fields}
-use Rattle.sending.specs.Blocks.{is_start_block}
+use Rattle.sending.specs.Blocks.{is_end_block, is_start_block}
 use Rattle.sending.specs.Messages.{cv_block, cs_block, is_message}
 use Rattle.sending.specs.Sender.{SenderSetup, LineFrame}
 use Rattle.sending.specs.Life.{Life, LineItem, frame, gap, state_of, blocks, items}
@@ -76,6 +76,14 @@ NoStart (gap b) = IsFalse (is_start_block b)
 
 abbrev pub GapsNeverStart : Type 0
 GapsNeverStart = (m : SenderSetup) (l : Life) → Each (λ i x. NoStart x) 0 (items m l)
+
+-- nor an end block, so that the end blocks are those of the frames
+abbrev pub NoEnd : LineItem → Type 0
+NoEnd (frame f) = Unit {0}
+NoEnd (gap b) = IsFalse (is_end_block b)
+
+abbrev pub GapsNeverEnd : Type 0
+GapsNeverEnd = (m : SenderSetup) (l : Life) → Each (λ i x. NoEnd x) 0 (items m l)
 
 abbrev pub one_if_frame : LineItem → ℕ
 one_if_frame (frame f) = 1

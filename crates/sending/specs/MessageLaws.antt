@@ -1,16 +1,18 @@
 -- What becomes of the messages that are left, in every life of a sender.
-use Rattle.std.specs.Prelude.{◌≡◌, ℕ, ◌+◌, ◌*◌, ◌/◌, ◌%◌, ◌<◌, ◌≤◌, ◌⊎◌, Bool, true, false, IsTrue, if◌then◌else◌, not, ◌&&◌, List, [], ◌∷◌, ◌++◌, Some, None, Option, Err, length, take, ◌==◌}
+use Rattle.std.specs.Prelude.{◌≡◌, ℕ, ◌+◌, ◌*◌, ◌/◌, ◌%◌, ◌<◌, ◌≤◌, ◌⊎◌, Bool, true, false, IsTrue, IsFalse, if◌then◌else◌, not, ◌&&◌, List, [], ◌∷◌, ◌++◌, Some, None, Option, Ok, Err, length, take, ◌==◌}
 use Rattle.std.specs.List.{All, Contains, flat_map}
 use Rattle.block.specs.declared.Block.{Block}
 use Rattle.block.specs.Fixed.{idle_block}
 use Rattle.refusal.specs.declared.Refusal.{Refusal}
 use Rattle.message.specs.declared.Kind.{Kind}
+use Rattle.message.specs.Values.{filled_values, lawful}
+use Rattle.message.specs.Written.{message_blocks}
 use Rattle.schedule.specs.declared.Item.{Item}
 use Rattle.schedule.specs.declared.Item.TheVariants.{Frame, Idle, Basic, Protection, Verification, ClientSignal, Delay, Spare}
 use Rattle.schedule.specs.Cycle.{item_at, low_priority_item, protection_item, round_items}
 use Rattle.sending.specs.Blocks.{is_idle_block}
 use Rattle.sending.specs.Messages.{same_sort}
-use Rattle.waiting.specs.Messages.{MessageToSend, message_to_send, waits}
+use Rattle.waiting.specs.Messages.{MessageToSend, message_to_send, sort_of, waits}
 use Rattle.waiting.specs.declared.Sort.{Sort}
 use Rattle.waiting.specs.declared.Sort.TheVariants.{Delay as delays, Protection as protections}
 use Rattle.sending.specs.Sender.{SenderSetup, SenderState, waiting_of, accepted_message, leave_answer, state_after_leave}
@@ -102,6 +104,33 @@ left_by_call sort s n (leave kind values) = message_left sort n (accepted_messag
 unfoldable pub messages_left : Sort → SenderSetup → Life → List LeftMessage
 messages_left sort m made = []
 messages_left sort m (followed l c) = messages_left sort m l ++ left_by_call sort (state_of m l) (length (items m l)) c
+
+-- a leaving by a kind that may be left and values that are lawful for it: of the messages left of the kind's sort there is one more, the message
+-- that kind and values make, left after the items that had begun; those of the other sort stay
+pub record OneMoreLeft (m : SenderSetup) (l : Life) (kind : Option Kind) (values : List ℕ) : Type 0 where
+  pub of_kind : Kind
+  pub sort : Sort
+  pub named : kind ≡ Some of_kind
+  pub may_be_left : sort_of of_kind ≡ Some sort
+  pub values_lawful : IsTrue (lawful of_kind values)
+  pub one_more :
+      messages_left sort m (followed l (leave kind values))
+      ≡ messages_left sort m l ++ record { after = length (items m l); blocks = message_blocks of_kind (filled_values values) } ∷ []
+  pub others : (other : Sort) → IsFalse (same_sort other sort) → messages_left other m (followed l (leave kind values)) ≡ messages_left other m l
+
+-- a leaving that is answered Ok is such a one
+abbrev pub AcceptedLeft : Type 0
+AcceptedLeft =
+    (m : SenderSetup) (l : Life) (kind : Option Kind) (values : List ℕ)
+    → leave_answer (state_of m l) kind values ≡ Ok tt
+    → OneMoreLeft m l kind values
+
+-- and one that is refused is none of the messages left
+abbrev pub RefusedNotLeft : Type 0
+RefusedNotLeft =
+    (m : SenderSetup) (l : Life) (kind : Option Kind) (values : List ℕ) (cause : Refusal)
+    → leave_answer (state_of m l) kind values ≡ Err cause
+    → (sort : Sort) → messages_left sort m (followed l (leave kind values)) ≡ messages_left sort m l
 
 -- messages sent whole: each from the first opportunity on at which it may start
 abbrev pub whole_messages : Sort → List LeftMessage → List BlockAt
