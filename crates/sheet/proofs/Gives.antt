@@ -14,6 +14,10 @@ filled_push : (es : List ℕ) (e : ℕ) → has_filled_entry (es ++ e ∷ []) �
 filled_push [] e = refl
 filled_push (x ∷ es) e = or_push (eqb x 0) (has_filled_entry (es ++ e ∷ [])) (has_filled_entry es) e (filled_push es e)
 
+-- the entries with n slots given, by their number
+pub slots_are : (c a n : ℕ) (es : List ℕ) → entries_with_slots c a n es ≡ take a es ++ (replicate n c ++ drop (a + n) es)
+slots_are c a n es = ap (λ m. take a es ++ (replicate n c ++ drop (a + m) es)) (length-replicate n c)
+
 module _ (c a n : ℕ) (es : List ℕ) (fits : a + n < length es) where
   front : List ℕ
   front = take a es ++ replicate n c
@@ -24,7 +28,7 @@ module _ (c a n : ℕ) (es : List ℕ) (fits : a + n < length es) where
 
   split : entries_with_slots c a n es ≡ front ++ (get_or es (a + n) 0 ∷ drop (a + n + 1) es)
   unfolding front
-  split = sym (append_assoc (take a es) (replicate n c) (drop (a + n) es)) ∙ ap (λ t. (take a es ++ replicate n c) ++ t) (drop_more es (a + n) 0 fits)
+  split = slots_are c a n es ∙ sym (append_assoc (take a es) (replicate n c) (drop (a + n) es)) ∙ ap (λ t. (take a es ++ replicate n c) ++ t) (drop_more es (a + n) 0 fits)
 
   pub at_next : get_or (entries_with_slots c a n es) (a + n) 0 ≡ get_or es (a + n) 0
   at_next = ap (λ t. get_or t (a + n) 0) split ∙ get_or_at front (get_or es (a + n) 0) (drop (a + n + 1) es) 0 (a + n) front_length
@@ -38,6 +42,7 @@ module _ (c a n : ℕ) (es : List ℕ) (fits : a + n < length es) where
       ∙ append_assoc (take a es) (replicate n c) (c ∷ rest)
       ∙ ap (λ t. take a es ++ t) (sym (append_assoc (replicate n c) (c ∷ []) rest) ∙ ap (λ t. t ++ rest) (replicate_more n c))
       ∙ ap (λ m. take a es ++ (replicate (n + 1) c ++ drop m es)) (add_assoc a n 1)
+      ∙ sym (slots_are c a (n + 1) es)
 
   pub filled_more : has_filled_entry (take (n + 1) (drop a es)) ≡ cond (has_filled_entry (take n (drop a es))) true (cond (eqb (get_or es (a + n) 0) 0) false true)
   filled_more =

@@ -1,11 +1,13 @@
 -- Entries slot by slot: what giving a group changes, and when one of its slots is taken.
 use Rattle.std.proofs.Common.{◌≡◌, ℕ, zero, suc, ◌+◌, ◌-◌, ◌<◌, ◌≤◌, true, false, eqb, ◌⊎◌, List, [], ◌∷◌, ◌++◌, length, get_or, take, drop, replicate, sym, refl, ap, ◌∙◌, inl, inr, ⊎_elim, arith}
-use Rattle.std.proofs.lemmas.List.{length-append, length-replicate, length-take-le, length-drop, length-take, get_or_append_left, get_or-append_right, get_or-take, get_or-drop, get_or-replicate}
+use Rattle.std.proofs.lemmas.List.{length-replicate, length-take-le, length-take, get_or_append_left, get_or-append_right, get_or-take, get_or-drop, get_or-replicate}
 use Rattle.std.proofs.lemmas.Bool.{cases_lt, cond-true, cond-false}
 use Rattle.std.proofs.lemmas.Bool.Decides.{eqb_tells, nat_tests}
+use Rattle.bits.proofs.Splices.{length_splice}
 use Rattle.form.specs.Lease.{Group}
 use Rattle.sheet.specs.Verdict.{has_filled_entry, fits, entries_with_group, size, has_used_slot}
 use Rattle.sheet.specs.Laws.{GroupsInRange, HeldBy, Holds}
+use Rattle.sheet.proofs.Gives.{slots_are}
 
 -- the entry of slot k
 abbrev pub at : List ℕ → ℕ → ℕ
@@ -54,24 +56,22 @@ module _ (c : ℕ) (g : Group) (es : List ℕ) (full : length es ≡ 480) (low :
   pub length_give : length (entries_with_group c g es) ≡ 480
   unfolding a n
   length_give =
-      let x = length-append (take (g.first - 1) es) (replicate (g.last + 1 - g.first) c ++ drop (g.first - 1 + (g.last + 1 - g.first)) es) in
-      let y = length-append (replicate (g.last + 1 - g.first) c) (drop (g.first - 1 + (g.last + 1 - g.first)) es) in
       let z = length-replicate (g.last + 1 - g.first) c in
-      let w = length-drop (g.first - 1 + (g.last + 1 - g.first)) es in
-      let f = length-take-le (g.first - 1) es (omega arith) in
-      omega arith
+      length_splice (g.first - 1) (replicate (g.last + 1 - g.first) c) es (omega arith) ∙ full
 
   pub give_held : (k : ℕ) → Holds g k → at (entries_with_group c g es) k ≡ c
   unfolding a n tail
   give_held k h =
-      get_or-append_right (take a es) tail a (k - 1) 0 fore (omega arith)
+      ap (λ l. at l k) (slots_are c a n es)
+      ∙ get_or-append_right (take a es) tail a (k - 1) 0 fore (omega arith)
       ∙ get_or_append_left (replicate n c) (drop (a + n) es) 0 (k - 1 - a) (let z = length-replicate n c in omega arith)
       ∙ get_or-replicate n (k - 1 - a) c 0 (omega arith)
 
   pub give_other : (k : ℕ) → 1 ≤ k → (Holds g k → ⊥) → at (entries_with_group c g es) k ≡ at es k
   unfolding a n tail
   give_other k one non =
-      ⊎_elim
+      ap (λ l. at l k) (slots_are c a n es)
+      ∙ ⊎_elim
       (λ b. get_or_append_left (take a es) tail 0 (k - 1) (let f = fore in omega arith) ∙ get_or-take a es (k - 1) 0 (omega arith))
       (λ b. let past : g.last < k = ⊎_elim (λ x. x) (λ x. absurd (non (omega arith, x))) (cases_lt g.last k) in
       let z = length-replicate n c in

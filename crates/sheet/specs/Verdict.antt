@@ -1,5 +1,6 @@
 -- What the reader makes of a sheet: the calendar that it gives, or the cause, level and line of its refusal.
-use Rattle.std.specs.Prelude.{ℕ, ◌+◌, ◌-◌, Bool, true, false, if◌then◌else◌, List, [], ◌∷◌, ◌++◌, length, take, drop, replicate, Some, None, Ok, Err, Option, Result, ◌==◌, nat_le, nat_lt}
+use Rattle.std.specs.Prelude.{ℕ, ◌+◌, ◌-◌, Bool, true, false, if◌then◌else◌, List, [], ◌∷◌, length, take, drop, replicate, Some, None, Ok, Err, Option, Result, ◌==◌, nat_le, nat_lt}
+use Rattle.bits.specs.Splices.{splice}
 use Rattle.refusal.specs.declared.Refusal.{Refusal}
 use Rattle.refusal.specs.declared.Refusal.TheVariants.{MarkNotAllowed, FormBroken, OutOfRange, SlotTwice, ClientTwice}
 use Rattle.refusal.specs.declared.Level.{Level}
@@ -25,7 +26,7 @@ size g = g.last + 1 - g.first
 
 -- the entries with n slots, behind the first a, given to client c
 abbrev pub entries_with_slots : ℕ → ℕ → ℕ → List ℕ → List ℕ
-entries_with_slots c a n es = take a es ++ (replicate n c ++ drop (a + n) es)
+entries_with_slots c a n es = splice a (replicate n c) es
 
 -- the entries with the slots of a group given to client c
 abbrev pub entries_with_group : ℕ → Group → List ℕ → List ℕ
