@@ -19,9 +19,15 @@ pub opening : (o p : List ℕ) → length o ≡ 7 → length p ≡ 7920 →
 opening o p h k = sym (ap (λ (l : List ℕ). take 8 (l ++ p)) (listed o 0 7 (sym h))
     ∙ ap (λ (l : List ℕ). take 8 (map (λ i. get_or o (0 + i) 0) (range_with_len 0 7) ++ l)) (drop_more p 0 0 (omega arith)))
 
--- a list's last seven entries, as the code has them
-pub last_seven : (p ys : List ℕ) → length p ≡ 7920 → ys ≡ take 7 (drop 7913 p) → ys ++ [] ≡ drop 7913 p
-last_seven p ys h e = append-nil ys ∙ e ∙ take_all 7 (drop 7913 p) (omega (arith, length-drop 7913 p))
+-- a list's last seven entries, copied at once as the code does, or one by one
+pub seven_copied : (p ys : List ℕ) → length p ≡ 7920 → ys ≡ take 7 (drop 7913 p) → ys ++ [] ≡ drop 7913 p
+seven_copied p ys h e = append-nil ys ∙ e ∙ take_all 7 (drop 7913 p) (omega (arith, length-drop 7913 p))
+
+pub seven_listed : (p : List ℕ) → length p ≡ 7920 →
+    get_or p 7913 0 ∷ get_or p 7914 0 ∷ get_or p 7915 0 ∷ get_or p 7916 0 ∷ get_or p 7917 0 ∷ get_or p 7918 0 ∷ get_or p 7919 0 ∷ [] ≡ drop 7913 p
+seven_listed p h = sym (listed p 7913 7 (sym h))
+
+pub ruleset last_seven = (seven_copied, seven_listed)
 
 -- what lies past the overhead
 pub past : (o p : List ℕ) (k m : ℕ) → length o ≡ 7 → k ≡ 7 + m → drop k (o ++ p) ≡ drop m p
