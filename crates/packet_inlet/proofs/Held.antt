@@ -87,23 +87,24 @@ filling_none at old w here = record {
 }
 
 pub filling_more :
-    (at : ℕ) (old now next : PacketReader) (w v u : Lists) (b : Block) → Filling at old now w v → at < reader_places now →
+    (at place : ℕ) (old now next : PacketReader) (w v u : Lists) (b : Block) → Filling at old now w v → at < reader_places now →
     Some b ≡ first_of (v now.client) → u ≡ lists_after_next now.client v →
-    next.held ≡ at + 1 → next.client ≡ now.client → next.places.now ≡ set now.places.now at b → next.places.ghost_name ≡ now.places.ghost_name →
-    Filling (at + 1) old next w u
-filling_more at old now next w v u b one room first left held client places lender = record {
-  held = held;
-  from = omega (arith, one.from);
-  client = client ∙ one.client;
-  places = ap length places ∙ length-set now.places.now at b ∙ one.places;
-  lender = lender ∙ one.lender;
-  filled =
-      let more : at + 1 - old.held ≡ at - old.held + 1 = omega (arith, one.from) in
-      let so_far : Filled old.client (at - old.held) w v (held_blocks old) (take at now.places.now) = rw one.held at one.filled in
-      rw (more, held, places)
-      (filled_more old.client (at - old.held) w v u (held_blocks old) now.places.now at b so_far room
-      (first ∙ ap (λ k. first_of (v k)) one.client) (left ∙ ap (λ k. lists_after_next k v) one.client));
-}
+    next.held ≡ at + 1 → next.client ≡ now.client → next.places.now ≡ set now.places.now place b → next.places.ghost_name ≡ now.places.ghost_name →
+    place ≡ at → Filling (at + 1) old next w u
+filling_more at place old now next w v u b one room first left held client put lender same =
+    let places : next.places.now ≡ set now.places.now at b = put ∙ ap (λ k. set now.places.now k b) same in record {
+      held = held;
+      from = omega (arith, one.from);
+      client = client ∙ one.client;
+      places = ap length places ∙ length-set now.places.now at b ∙ one.places;
+      lender = lender ∙ one.lender;
+      filled =
+          let more : at + 1 - old.held ≡ at - old.held + 1 = omega (arith, one.from) in
+          let so_far : Filled old.client (at - old.held) w v (held_blocks old) (take at now.places.now) = rw one.held at one.filled in
+          rw (more, held, places)
+          (filled_more old.client (at - old.held) w v u (held_blocks old) now.places.now at b so_far room
+          (first ∙ ap (λ k. first_of (v k)) one.client) (left ∙ ap (λ k. lists_after_next k v) one.client));
+    }
 
 -- blocks behind those held, as many as there are places for
 in_reach : (places : ℕ) (held l : List Block) → length held ≤ places → held ++ take (places - length held) l ≡ take places (held ++ l)

@@ -7,8 +7,8 @@ loop-place-init g c = filling_none _ _ _ (omega arith)
 
 pub loop-place-preserved : goal.loop-place-preserved
 loop-place-preserved g c =
-    filling_more c.loop-place.place c.args.self.now c.loop-place.self _ _ _ _ _ c.loop-place.invariant (omega (arith, c.loop-place.invariant.places))
-    c.in-Some.ensures.first c.next.ensures.rest (omega arith) refl refl refl
+    filling_more c.loop-place.place _ c.args.self.now c.loop-place.self _ _ _ _ _ c.loop-place.invariant (omega (arith, c.loop-place.invariant.places))
+    c.in-Some.ensures.first c.next.ensures.rest (omega arith) refl refl refl (omega (arith, c.loop-place.invariant.places))
 
 pub returns-in_default : goal.returns-in_default
 returns-in_default g c =
