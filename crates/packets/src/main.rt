@@ -117,32 +117,34 @@ fn carry_line<I: Inlet>(stored: Stored<'_>, inlet: &mut I, out: &mut [u8]) -> Re
     packet_report::carried_line(client, length, count, &back[0..read], out)
 }
 
-// Puts the packets of all lines into the store.
-fn store_all<'a, O: Outlet>(
-    text: &'a [u8],
+// Puts the packets of all lines into the store, and answers for each line how many blocks it has, or why it is refused.
+fn store_all<O: Outlet>(
+    text: &[u8],
     outlet: &mut O,
     alloc: Global,
-) -> Result<Vec<Stored<'a>>, Failure> {
+) -> Result<Vec<Result<usize, Refusal>>, Failure> {
     let mut stored = Vec::new(alloc);
     for line in text.split_inclusive(|byte| *byte == b'\n') {
-        let blocks = store_line(line, outlet);
-        stored.push(Stored { line, blocks })?;
+        stored.push(store_line(line, outlet))?;
     }
     Ok(stored)
 }
 
 fn main(rt: HostRuntime) -> Result<(), Failure> {
-    let mut input = Vec::new(rt.alloc());
-    rt.stdin().take(INPUT as u64).read_to_end(&mut input)?;
+    let mut input = [0u8; INPUT];
+    let n = io::copy(&mut rt.stdin().take(INPUT as u64), &mut &mut input[..])?;
+    // No more than INPUT bytes come; the contract of `copy` does not say so.
+    let input = &input[..INPUT.min(n as usize)];
     if input.len() == INPUT {
         return Err(Failure::InputTooLong);
     }
     let mut places = [TaggedBlock::UNUSED; PLACES];
     let mut tape = Tape::new(&mut places);
-    let stored = store_all(&input, &mut tape, rt.alloc())?;
-    for (index, line) in stored.iter().enumerate() {
+    let stored = store_all(input, &mut tape, rt.alloc())?;
+    let lines = input.split_inclusive(|byte| *byte == b'\n');
+    for (index, (line, blocks)) in lines.zip(stored).enumerate() {
         let mut text = [0; LINE];
-        let length = carry_line(*line, &mut tape, &mut text)
+        let length = carry_line(Stored { line, blocks }, &mut tape, &mut text)
             .or_else(|cause| packet_report::refused_line(index + 1, cause, &mut text))
             .map_err(|_| Failure::LineTooLong)?;
         let text = text.get(0..length).ok_or(Failure::LineTooLong)?;

@@ -10,13 +10,15 @@ use std::io::{Read, Write};
 use std::process::ExitCode;
 
 // One byte more than the longest sheet, so that a longer one is seen to be too long.
-const ROOM: u64 = sheet::LONGEST as u64 + 1;
+const ROOM: usize = sheet::LONGEST + 1;
 
 fn main(rt: HostRuntime) -> io::Result<ExitCode> {
-    let mut bytes = Vec::new(rt.alloc());
-    rt.stdin().take(ROOM).read_to_end(&mut bytes)?;
+    let mut bytes = [0u8; ROOM];
+    let n = io::copy(&mut rt.stdin().take(ROOM as u64), &mut &mut bytes[..])?;
+    // No more than ROOM bytes come; the contract of `copy` does not say so.
+    let bytes = &bytes[..ROOM.min(n as usize)];
     let mut calendar = Calendar::empty();
-    match sheet::read(&bytes, &mut calendar) {
+    match sheet::read(bytes, &mut calendar) {
         Ok(()) => {
             let mut text = [0u8; LISTING_LEN];
             let len = listing::listing(&calendar, &mut text);
