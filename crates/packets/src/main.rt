@@ -15,7 +15,7 @@ use port::{Inlet, Outlet};
 use refusal::Refusal;
 use std::alloc::{AllocError, AllocFailed, Global};
 use std::io;
-use std::io::{Read, Write};
+use std::io::{ErrorKind, Read, Write};
 use tape::{TaggedBlock, Tape};
 
 // One byte more than the longest input, so that a longer one is seen to be too long.
@@ -72,6 +72,26 @@ impl<T: Drop> From<AllocFailed<T>> for Failure {
     fn from(_error: AllocFailed<T>) -> Failure {
         Failure::Memory
     }
+}
+
+// Reads into the places until the input ends or they are full, and answers how many bytes were read. A read that a signal interrupts is
+// tried again. Not by the library's `copy`, whose buffer would take 8 KiB of stack, nor by `read_to_end`, which takes heap memory.
+fn fill<R: Read>(input: &mut R, places: &mut [u8]) -> io::Result<usize>
+    ensures { IfOk result (λ n. n ≤ length places.old) }
+{
+    let mut n = 0;
+    for _ in 0..u64::MAX {
+        if n == places.len() {
+            break;
+        }
+        match input.read(&mut places[n..]) {
+            Ok(0) => break,
+            Ok(got) => n += got,
+            Err(error) if error.kind() == ErrorKind::Interrupted => {}
+            Err(error) => return Err(error),
+        }
+    }
+    Ok(n)
 }
 
 // A line of the input, and how many blocks of its packet are in the store, or why it is refused.
@@ -132,9 +152,8 @@ fn store_all<O: Outlet>(
 
 fn main(rt: HostRuntime) -> Result<(), Failure> {
     let mut input = [0u8; INPUT];
-    let n = io::copy(&mut rt.stdin().take(INPUT as u64), &mut &mut input[..])?;
-    // No more than INPUT bytes come; the contract of `copy` does not say so.
-    let input = &input[..INPUT.min(n as usize)];
+    let n = fill(&mut rt.stdin(), &mut input)?;
+    let input = &input[..n];
     if input.len() == INPUT {
         return Err(Failure::InputTooLong);
     }
