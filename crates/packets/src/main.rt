@@ -15,7 +15,7 @@ use port::{Inlet, Outlet};
 use refusal::Refusal;
 use std::alloc::{AllocError, AllocFailed, Global};
 use std::io;
-use std::io::{Read, Write};
+use std::io::{ErrorKind, Read, Write};
 use tape::{TaggedBlock, Tape};
 
 // One byte more than the longest input, so that a longer one is seen to be too long.
@@ -74,6 +74,26 @@ impl<T: Drop> From<AllocFailed<T>> for Failure {
     }
 }
 
+// Reads into the places until the input ends or they are full, and answers how many bytes were read. A read that a signal interrupts is
+// tried again. Not by the library's `copy`, whose buffer would take 8 KiB of stack, nor by `read_to_end`, which takes heap memory.
+fn fill<R: Read>(input: &mut R, places: &mut [u8]) -> io::Result<usize>
+    ensures { IfOk result (λ n. n ≤ length places.old) }
+{
+    let mut n = 0;
+    for _ in 0..u64::MAX {
+        if n == places.len() {
+            break;
+        }
+        match input.read(&mut places[n..]) {
+            Ok(0) => break,
+            Ok(got) => n += got,
+            Err(error) if error.kind() == ErrorKind::Interrupted => {}
+            Err(error) => return Err(error),
+        }
+    }
+    Ok(n)
+}
+
 // A line of the input, and how many blocks of its packet are in the store, or why it is refused.
 #[derive(Clone, Copy)]
 struct Stored<'a> {
@@ -117,32 +137,33 @@ fn carry_line<I: Inlet>(stored: Stored<'_>, inlet: &mut I, out: &mut [u8]) -> Re
     packet_report::carried_line(client, length, count, &back[0..read], out)
 }
 
-// Puts the packets of all lines into the store.
-fn store_all<'a, O: Outlet>(
-    text: &'a [u8],
+// Puts the packets of all lines into the store, and answers for each line how many blocks it has, or why it is refused.
+fn store_all<O: Outlet>(
+    text: &[u8],
     outlet: &mut O,
     alloc: Global,
-) -> Result<Vec<Stored<'a>>, Failure> {
+) -> Result<Vec<Result<usize, Refusal>>, Failure> {
     let mut stored = Vec::new(alloc);
     for line in text.split_inclusive(|byte| *byte == b'\n') {
-        let blocks = store_line(line, outlet);
-        stored.push(Stored { line, blocks })?;
+        stored.push(store_line(line, outlet))?;
     }
     Ok(stored)
 }
 
 fn main(rt: HostRuntime) -> Result<(), Failure> {
-    let mut input = Vec::new(rt.alloc());
-    rt.stdin().take(INPUT as u64).read_to_end(&mut input)?;
+    let mut input = [0u8; INPUT];
+    let n = fill(&mut rt.stdin(), &mut input)?;
+    let input = &input[..n];
     if input.len() == INPUT {
         return Err(Failure::InputTooLong);
     }
     let mut places = [TaggedBlock::UNUSED; PLACES];
     let mut tape = Tape::new(&mut places);
-    let stored = store_all(&input, &mut tape, rt.alloc())?;
-    for (index, line) in stored.iter().enumerate() {
+    let stored = store_all(input, &mut tape, rt.alloc())?;
+    let lines = input.split_inclusive(|byte| *byte == b'\n');
+    for (index, (line, blocks)) in lines.zip(stored).enumerate() {
         let mut text = [0; LINE];
-        let length = carry_line(*line, &mut tape, &mut text)
+        let length = carry_line(Stored { line, blocks }, &mut tape, &mut text)
             .or_else(|cause| packet_report::refused_line(index + 1, cause, &mut text))
             .map_err(|_| Failure::LineTooLong)?;
         let text = text.get(0..length).ok_or(Failure::LineTooLong)?;
