@@ -1,11 +1,11 @@
 -- Hexadecimal digits: tested one by one, read two by two, and written again.
-use Rattle.std.proofs.Common.{◌≡◌, ℕ, zero, suc, ◌+◌, ◌*◌, ◌/◌, ◌%◌, ◌<◌, ◌≤◌, true, eqb, List, [], ◌∷◌, length, leb, Some, Ok, Err, Result, MatchResult, subst, sym, refl, ap, ◌∙◌, arith}
+use Rattle.std.proofs.Common.{◌≡◌, ℕ, zero, suc, ◌+◌, ◌*◌, ◌/◌, ◌%◌, ◌<◌, ◌≤◌, true, eqb, List, [], ◌∷◌, ◌++◌, length, get_or, take, drop, set, leb, Ok, Err, sym, refl, ap, ◌∙◌, arith}
 use Rattle.std.specs.List.{AllByRecursion}
+use Rattle.std.specs.Simd.{first_chunks}
+use Rattle.std.proofs.lemmas.List.{append_assoc, append-nil, at_drop_more, drop-drop, drop-set-lt, get_or-drop, get_or-take, length-drop, length-take-le, take-append-drop, take_more_set}
 use Rattle.std.proofs.lemmas.Bool.{and_from, and_parts, cond-false, cond-true, eq-eqb, eqb-true, le-leb, lt-leb}
 use Rattle.std.proofs.lemmas.Bool.Decides.{nat_tests}
-use Rattle.hex.specs.Hex.{decode_pairs, decode_sized, hex_digit_value}
-use Rattle.hex.proofs.HexLemmas.{decode_of-even, decode_sized-twice}
-use Rattle.hex.specs.declared.error.FromHexError.{FromHexError}
+use Rattle.packet.specs.Answers.{over}
 use Rattle.refusal.specs.declared.Refusal.TheVariants.{OutputTooShort}
 use Rattle.packet_text.specs.Lines.{length_answer}
 use Rattle.packet_text.specs.Hex.{all_hex, hex_bytes, hex_digit, hex_text, hex_value, is_hex, is_hex_digit}
@@ -75,39 +75,75 @@ hex_parts xs e =
     let even = eqb-true (length xs % 2) 0 h.1 in
     text_of_bytes (length xs / 2) xs h.0 (omega arith)
 
--- a small letter or a digit has the same value for the kit's reader
-digit_value : (x : ℕ) → is_hex_digit x ≡ true → hex_digit_value x ≡ Some (hex_value x)
-digit_value x e = grind (arith, nat_tests)
+-- a pair of digits, of all that stand in twos
+pub pair_is : (n i : ℕ) (text none : List ℕ) → i < n → get_or (first_chunks 2 n text) i none ≡ take 2 (drop (2 * i) text)
+pair_is zero i text none low = absurd (omega arith)
+pair_is (suc n) zero text none low = refl
+pair_is (suc n) (suc i) text none low =
+    let e : 2 + 2 * i ≡ 2 * suc i = omega arith in
+    pair_is n i (drop 2 text) none (omega arith) ∙ rw (drop-drop, e) refl
 
--- digits, two for each byte, are decoded as the bytes that they write
-decoded_from :
-    (k i : ℕ) (xs : List ℕ) → all_hex xs ≡ true → length xs ≡ 2 * k → decode_pairs i xs ≡ Ok (hex_bytes xs)
-unfolding hex_bytes decode_pairs
-decoded_from k i [] e n = refl
-decoded_from k i (x ∷ []) e n = absurd (omega arith)
-decoded_from zero i (x ∷ y ∷ zs) e n = absurd (omega arith)
-decoded_from (suc k) i (x ∷ y ∷ zs) e n =
-    let one = and_parts (is_hex_digit x) (all_hex (y ∷ zs)) e in
-    let two = and_parts (is_hex_digit y) (all_hex zs) one.1 in
-    let high = digit_value x one.0 in
-    let low = digit_value y two.0 in
-    let rest = decoded_from k (i + 2) zs two.1 (omega arith) in
-    let swap : hex_value x * 16 + hex_value y ≡ 16 * hex_value x + hex_value y = omega arith in
-    rw (high, low, rest) (ap (λ b. Ok (b ∷ hex_bytes zs)) swap)
+-- its two digits
+pub high_is : (text : List ℕ) (i : ℕ) → get_or (take 2 (drop (2 * i) text)) 0 0 ≡ get_or text (2 * i) 0
+high_is text i =
+    let front : 2 * i + 0 ≡ 2 * i = omega arith in
+    get_or-take 2 (drop (2 * i) text) 0 0 (omega arith) ∙ get_or-drop (2 * i) text 0 0 ∙ ap (λ k. get_or text k 0) front
 
-pub decoded : (xs : List ℕ) → is_hex xs ≡ true → decode_sized xs (length xs / 2) ≡ Ok (hex_bytes xs)
-decoded xs e =
-    let h = and_parts (all_hex xs) (eqb (length xs % 2) 0) e in
-    let even = eqb-true (length xs % 2) 0 h.1 in
-    decode_sized-twice xs (length xs / 2) (omega arith) ∙ decode_of-even xs even ∙ decoded_from (length xs / 2) 0 xs h.0 (omega arith)
+pub low_is : (text : List ℕ) (i : ℕ) → get_or (take 2 (drop (2 * i) text)) 1 0 ≡ get_or text (2 * i + 1) 0
+low_is text i = get_or-take 2 (drop (2 * i) text) 1 0 (omega arith) ∙ get_or-drop (2 * i) text 1 0
 
--- so the kit's reader succeeds on digits, and writes the bytes
-pub decodes :
-    (xs out : List ℕ) (n : ℕ) (r : Result Unit FromHexError) → is_hex xs ≡ true → n ≡ length xs / 2 →
-    MatchResult (decode_sized xs n) (λ bytes. (r ≡ Ok tt) × (out ≡ bytes)) (λ e. r ≡ Err e) → (r ≡ Ok tt) × (out ≡ hex_bytes xs)
-decodes xs out n r hex half h =
-    let P : Result (List ℕ) FromHexError → Type 0 = λ d. MatchResult d (λ bytes. (r ≡ Ok tt) × (out ≡ bytes)) (λ e. r ≡ Err e) in
-    subst P (ap (decode_sized xs) half ∙ decoded xs hex) h
+-- i bytes are read from the digits, and the rest of the output is as before
+pub record ReadUpTo (text before out : List ℕ) (i : ℕ) : Type 0 where
+  pub bytes : take i out ++ hex_bytes (drop (2 * i) text) ≡ hex_bytes text
+  pub rest : drop i out ≡ drop i before
+
+pub read_none : (text out : List ℕ) → ReadUpTo text out out 0
+read_none text out = record { bytes = refl; rest = refl }
+
+pub read_more :
+    (text before out : List ℕ) (i x : ℕ) → 2 * i + 1 < length text → i < length out →
+    x ≡ 16 * hex_value (get_or text (2 * i) 0) + hex_value (get_or text (2 * i + 1) 0) →
+    ReadUpTo text before out i → ReadUpTo text before (set out i x) (i + 1)
+unfolding hex_bytes
+read_more text before out i x low room is inv =
+    let a = get_or text (2 * i) 0 in
+    let b = get_or text (2 * i + 1) 0 in
+    let behind = drop (2 * i + 1 + 1) text in
+    let two : 2 * i + 1 + 1 ≡ 2 * (i + 1) = omega arith in
+    let first : hex_bytes (drop (2 * i) text) ≡ hex_bytes (a ∷ drop (2 * i + 1) text) = at_drop_more hex_bytes text (2 * i) 0 (omega arith) in
+    let second : hex_bytes (a ∷ drop (2 * i + 1) text) ≡ (16 * hex_value a + hex_value b) ∷ hex_bytes behind =
+    at_drop_more (λ t. hex_bytes (a ∷ t)) text (2 * i + 1) 0 low in
+    let here : hex_bytes (drop (2 * i) text) ≡ x ∷ hex_bytes (drop (2 * (i + 1)) text) =
+    first ∙ second ∙ ap (λ y. y ∷ hex_bytes behind) (sym is) ∙ ap (λ k. x ∷ hex_bytes (drop k text)) two in
+    record {
+      bytes =
+          ap (λ t. t ++ hex_bytes (drop (2 * (i + 1)) text)) (take_more_set out i x room)
+          ∙ append_assoc (take i out) (x ∷ []) (hex_bytes (drop (2 * (i + 1)) text))
+          ∙ ap (λ t. take i out ++ t) (sym here)
+          ∙ inv.bytes;
+      rest =
+          drop-set-lt (i + 1) out i x (omega arith)
+          ∙ sym (drop-drop 1 i out)
+          ∙ ap (drop 1) inv.rest
+          ∙ drop-drop 1 i before;
+    }
+
+-- fewer than two digits are left
+none_left : (text : List ℕ) → length text < 2 → hex_bytes text ≡ []
+unfolding hex_bytes
+none_left [] short = refl
+none_left (x ∷ []) short = refl
+none_left (x ∷ y ∷ zs) short = absurd (omega arith)
+
+pub read_all :
+    (text before out : List ℕ) (i : ℕ) → length text < 2 * i + 2 → i ≤ length out → ReadUpTo text before out i →
+    out ≡ over (hex_bytes text) before
+read_all text before out i all room inv =
+    let left : hex_bytes (drop (2 * i) text) ≡ [] = none_left (drop (2 * i) text) (omega (arith, length-drop (2 * i) text)) in
+    let front : take i out ≡ hex_bytes text =
+    sym (append-nil (take i out)) ∙ ap (λ t. take i out ++ t) (sym left) ∙ inv.bytes in
+    let long : i ≡ length (hex_bytes text) = sym (length-take-le i out room) ∙ ap length front in
+    sym (take-append-drop i out) ∙ ap (λ t. t ++ drop i out) front ∙ ap (λ t. hex_bytes text ++ t) inv.rest ∙ ap (λ k. hex_bytes text ++ drop k before) long
 
 -- what is answered of the digits' bytes
 pub answer_fits : (xs : List ℕ) (places : ℕ) → length xs / 2 ≤ places → Ok (length xs / 2) ≡ length_answer (hex_bytes xs) places

@@ -3,10 +3,10 @@
 //! Main promise: a line is read as a client and bytes exactly if it is just these written out; any other is a broken form.
 #![tactic(auto)]
 
-ghost use Rattle.std.specs.Prelude.{◌≡◌, true, length};
+ghost use Rattle.std.specs.Prelude.{◌≡◌, ◌<◌, true, length};
 ghost use Rattle.form.specs.Reads.{Reads};
 ghost use Rattle.packet.specs.Answers.{leaves};
-ghost use Rattle.packet_text.specs.Hex.{all_hex, hex_bytes, is_hex, is_hex_digit};
+ghost use Rattle.packet_text.specs.Hex.{all_hex, hex_bytes, hex_value, is_hex, is_hex_digit};
 ghost use Rattle.packet_text.specs.Lines.{LinesRead, OnlyLinesRead, length_answer, line_answer, packet_line_bytes, packet_line_form, packet_line_parts};
 
 pub use form::cut_line;
@@ -54,19 +54,33 @@ fn parts(line: &[u8]) -> Result<(u16, &[u8]), FormError>
     }
 }
 
-// Writes the bytes that the digits stand for to the front of the output, and answers how many they are.
+// What a hexadecimal digit stands for; 0 for any other byte.
+fn hex_value(digit: u8) -> u8
+    ensures value { result ≡ hex_value digit }
+    ensures small { result < 16 }
+{
+    match digit {
+        b'0'..=b'9' => digit - b'0',
+        b'a'..=b'f' => digit - b'a' + 10,
+        _ => 0,
+    }
+}
+
+// Writes the bytes that the digits stand for to the front of the output, and answers how many they are. The kit's
+// `hex::decode_to_slice` would test each digit again, and a line then takes 1.5 times as long.
 fn read_hex(digits: &[u8], out: &mut [u8]) -> Result<usize, Refusal>
     requires { is_hex digits.now ≡ true }
     ensures answer { result ≡ length_answer (hex_bytes digits.now) (length out.old) }
     ensures output { out.new ≡ leaves result (hex_bytes digits.now) out.old }
 {
-    let length = digits.len() / 2;
-    if out.len() < length {
+    let (pairs, _) = digits.as_chunks::<2>();
+    if out.len() < pairs.len() {
         return Err(Refusal::OutputTooShort);
     }
-    // never refused: the digits are hexadecimal, and the output has their room
-    hex::decode_to_slice(digits, &mut out[..length]).map_err(|_| Refusal::FormBroken)?;
-    Ok(length)
+    for (i, pair) in pairs.iter().enumerate() {
+        out[i] = 16 * hex_value(pair[0]) + hex_value(pair[1]);
+    }
+    Ok(pairs.len())
 }
 
 // Reads a line without the laws that `read_line` adds.

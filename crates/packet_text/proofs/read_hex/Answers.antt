@@ -1,35 +1,30 @@
-use Rattle.std.proofs.Common.{◌≡◌, ℕ, ◌/◌, ◌++◌, length, drop, ap, sym, ◌∙◌, arith}
-use Rattle.std.proofs.lemmas.List.{length-take-le}
-use Rattle.packet_text.specs.Hex.{hex_bytes}
-use Rattle.packet_text.proofs.Hex.{answer_fits, answer_long, decodes, length_hex_bytes}
+use Rattle.std.proofs.Common.{ℕ, ◌+◌, ◌*◌, ◌/◌, [], length, get_or, ap, ap₂, ◌∙◌, arith}
+use Rattle.packet_text.specs.Hex.{hex_value}
+use Rattle.packet_text.proofs.Hex.{answer_fits, answer_long, high_is, low_is, pair_is, read_all, read_more, read_none}
 use Rattle.packet_text.proofs.read_hex.Goals as goal
-use Rattle.packet_text.proofs.read_hex.Goals.{After-from_residual}
 
-pub returns-then-out-length-clause-answer : goal.returns-then-out-length-clause-answer
-returns-then-out-length-clause-answer c = answer_long c.args.digits.now (length c.args.out.now) (omega arith)
+pub loop-i-init : goal.loop-i-init
+loop-i-init c = read_none c.args.digits.now c.args.out.now
+
+pub loop-i-preserved : goal.loop-i-preserved
+loop-i-preserved c =
+    let digits = c.args.digits.now in
+    let i = c.loop-i.i in
+    let count = c.as_chunks.ensures.front_len in
+    let pair = ap (λ t. get_or t i []) c.as_chunks.ensures.front ∙ pair_is (length digits / 2) i digits [] (omega (arith, count)) in
+    let high = c.hex_value.ensures.value ∙ ap (λ t. hex_value (get_or t 0 0)) pair ∙ ap hex_value (high_is digits i) in
+    let low = c.hex_value-in-loop-i.ensures.value ∙ ap (λ t. hex_value (get_or t 1 0)) pair ∙ ap hex_value (low_is digits i) in
+    read_more digits c.args.out.now c.loop-i.out i _ (omega (arith, count)) (omega arith)
+    (ap₂ (λ (a b : ℕ). 16 * a + b) high low) c.loop-i.invariant
+
+pub returns-then-out-pairs-clause-answer : goal.returns-then-out-pairs-clause-answer
+returns-then-out-pairs-clause-answer c = answer_long c.args.digits.now (length c.args.out.now) (omega (arith, c.as_chunks.ensures.front_len))
 
 pub returns-clause-answer : goal.returns-clause-answer
-returns-clause-answer c = answer_fits c.args.digits.now (length c.args.out.now) (omega arith)
+returns-clause-answer c =
+    let count = c.as_chunks.ensures.front_len in
+    rw count (answer_fits c.args.digits.now (length c.args.out.now) (omega (arith, count)))
 
 pub returns-clause-output : goal.returns-clause-output
 returns-clause-output c =
-    let xs = c.args.digits.now in
-    let out = c.args.out.now in
-    let half = length-take-le (length xs / 2) out (omega arith) in
-    let bytes = (decodes xs c.decode_to_slice.new.out _ _ c.requires half c.decode_to_slice.ensures.value).1 in
-    ap (λ t. t ++ drop (length xs / 2) out) bytes ∙ ap (λ n. hex_bytes xs ++ drop n out) (sym (length_hex_bytes xs))
-
-never : (c : After-from_residual) → ⊥
-never c =
-    let xs = c.args.digits.now in
-    let half = length-take-le (length xs / 2) c.args.out.now (omega arith) in
-    let done = (decodes xs c.decode_to_slice.new.out _ _ c.requires half c.decode_to_slice.ensures.value).0 in
-    let failed = rw done at c.map_err.ensures in
-    let was = c.in_err-map_err.was in
-    let same : ◌≡◌ {A = ℕ} 0 1 = cc in omega arith
-
-pub returns-in_err-map_err-clause-answer : goal.returns-in_err-map_err-clause-answer
-returns-in_err-map_err-clause-answer c = absurd (never c)
-
-pub returns-in_err-map_err-clause-output : goal.returns-in_err-map_err-clause-output
-returns-in_err-map_err-clause-output c = absurd (never c)
+    read_all c.args.digits.now c.args.out.now c.loop-i.out c.loop-i.i (omega (arith, c.as_chunks.ensures.front_len)) (omega arith) c.loop-i.invariant
