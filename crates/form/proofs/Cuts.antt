@@ -1,18 +1,21 @@
 -- A text cut behind its first newline, and the newline at a text's end.
 use Rattle.std.proofs.lemmas.Option.{cond_some, none-some}
-use Rattle.std.proofs.Common.{◌≡◌, ℕ, suc, ◌+◌, ◌≤◌, Bool, true, false, not, cond, eqb, ltb, List, [], ◌∷◌, ◌++◌, length, take, drop, Some, None, Option, sym, refl, ap, ◌∙◌, arith, Bor, MatchOption, ◌≢◌}
+use Rattle.std.proofs.Common.{◌≡◌, ℕ, suc, ◌+◌, ◌-◌, ◌≤◌, Bool, true, false, not, codes, cond, eqb, ltb, List, [], ◌∷◌, ◌++◌, length, take, drop, Some, None, Option, sym, refl, ap, ◌∙◌, arith, Bor, MatchOption, ◌≢◌}
 use Rattle.std.specs.List.{position, position_or_len}
-use Rattle.std.proofs.lemmas.List.{drop_all, take_all}
+use Rattle.std.proofs.lemmas.List.{drop_all, take_all, take_rest}
 use Rattle.std.specs.Option.{option_copied}
 use Rattle.std.proofs.lemmas.Bool.{cond-false, eqb-true, ltb-false}
 use Rattle.form.specs.Cut.{cut_line, ended_text, longer_cut, text_with_byte}
 use Rattle.form.proofs.Words.{none_from}
+use Rattle.std.proofs.lemmas.Slice.Eq.{strip_suffix_is}
+use Rattle.std.proofs.lemmas.Bool.Decides.{Decides-eqb}
+use lib.Pointwise.{pointwise}
 
 -- whether a byte is a newline
 abbrev pub newline : ℕ → Bool
 newline c = eqb c 10
 
-cond_none : {A : Type 0} (t : Bool) (x : A) → cond t (Some x) None ≡ None → t ≡ false
+pub cond_none : {A : Type 0} (t : Bool) (x : A) → cond t (Some x) None ≡ None → t ≡ false
 cond_none true x e = absurd (none-some _ (sym e))
 cond_none false x e = refl
 
@@ -36,6 +39,9 @@ cut_none s e =
     let n = position_or_len newline s + 1 in
     let all : length s ≤ n = omega (arith, ltb-false (position_or_len newline s) (length s) past) in
     cut_place s ∙ ap (λ t. (t, drop n s)) (take_all n s all) ∙ ap (λ t. (s, t)) (drop_all n s all)
+
+-- where a text is cut, by the place of its first newline
+pub ruleset cuts = (cut_found, cut_none, take_rest)
 
 prefixed_cond : (t : Bool) (x : ℕ) (xs : List ℕ) → text_with_byte x (cond t (Some xs) None) ≡ cond t (Some (x ∷ xs)) None
 prefixed_cond true x xs = refl
@@ -63,6 +69,16 @@ ended_is (x ∷ y ∷ zs) ys e =
 pub stripped : (s : List ℕ) (r : Option (Bor (List ℕ))) → MatchOption r ((front : List ℕ) → s ≢ front ++ (10 ∷ [])) (λ x. s ≡ x.now ++ (10 ∷ [])) → option_copied r ≡ ended_text s
 stripped s None h = sym (none_from (ended_text s) (λ ys e. h ys (ended_is s ys e)))
 stripped s (Some x) h = sym (ap ended_text h ∙ ended_push x.now 10)
+
+-- the same, by what `strip_suffix` says of its answer
+pub text_ended :
+    (s : List ℕ) (r : Option (Bor (List ℕ))) →
+    MatchOption
+    r
+    (pointwise eqb (drop (length s - length (codes "\n")) s) (codes "\n") ≡ false)
+    (λ x. (pointwise eqb (drop (length s - length (codes "\n")) s) (codes "\n") ≡ true) × (x.now ≡ take (length s - length (codes "\n")) s) × (length x.now + length (codes "\n") ≡ length s)) →
+    option_copied r ≡ ended_text s
+text_ended s r h = stripped s r (strip_suffix_is Decides-eqb s (codes "\n") r h)
 
 -- a text that does not begin with a newline ends as what follows
 pub ended_more : (c : ℕ) (xs : List ℕ) → eqb c 10 ≡ false → ended_text (c ∷ xs) ≡ text_with_byte c (ended_text xs)

@@ -1,5 +1,5 @@
 -- The marks that a sheet may hold, and the sheet's lines.
-use Rattle.std.specs.Prelude.{ℕ, Bool, true, false, if◌then◌else◌, List, [], ◌∷◌, is_some, Some, None, Option, ◌==◌, nat_le}
+use Rattle.std.specs.Prelude.{ℕ, Bool, true, false, if◌then◌else◌, List, [], ◌∷◌, is_some, not, Some, None, Option, ◌==◌, nat_le}
 use Rattle.form.specs.declared.Mark.{Mark}
 use Rattle.form.specs.declared.Mark.TheVariants.{Open, Close, Blank, Digit, Letter, LineEnd}
 
@@ -24,6 +24,10 @@ mark_of c =
 abbrev pub all_marks : List ℕ → Bool
 all_marks [] = true
 all_marks (c ∷ cs) = if is_some (mark_of c) then all_marks cs else false
+
+-- whether the reading of a line stops at a byte: at a newline, and at a byte that is no mark
+abbrev pub stops_line : ℕ → Bool
+stops_line c = if c == 10 then true else not (is_some (mark_of c))
 
 -- a line: its bytes before the newline, and whether a newline ends it
 pub record LineOf : Type 0 where

@@ -6,9 +6,8 @@
 ghost use Rattle.std.specs.Prelude.{◌≡◌, ◌+◌, ◌*◌, ◌<◌, ◌≤◌, ◌==◌, length, position, Some, None, is_ok, is_some, IfOk, IfSome, MatchOption};
 ghost use Rattle.form.specs.Cut.{cut_line, ended_text};
 ghost use Rattle.form.specs.Form.{FormExact, extended_number, first_digit, group, is_closing_bracket, number, opening, rest_after};
-ghost use Rattle.form.specs.Marks.{all_marks, first_line, mark_of};
+ghost use Rattle.form.specs.Marks.{all_marks, first_line, mark_of, stops_line};
 ghost use Rattle.form.specs.Reads.{line_by, Reads};
-ghost use Rattle.std.specs.List.{list_all};
 ghost use Rattle.std.specs.Option.{option_copied};
 
 use refusal::{Level, Refusal, SheetRefusal};
@@ -138,6 +137,7 @@ fn newline(text: &[u8]) -> Option<usize>
 }
 
 /// The text up to its first newline, which is included, and what follows.
+#[tactic(auto, using(crate::proofs::Cuts::cuts))]
 pub fn cut_line(text: &[u8]) -> (&[u8], &[u8])
     ensures { (result.0.now, result.1.now) ≡ cut_line text.now }
 {
@@ -149,29 +149,39 @@ pub fn cut_line(text: &[u8]) -> (&[u8], &[u8])
 }
 
 /// A line's text without the newline that ends it, if one does.
+#[tactic(auto, using(crate::proofs::Cuts::text_ended))]
 pub fn line_text(line: &[u8]) -> Option<&[u8]>
     ensures { option_copied result ≡ ended_text line.now }
 {
     line.strip_suffix(b"\n")
 }
 
-// Whether every byte is a mark.
-fn all_marks(line: &[u8]) -> bool
-    ensures { result ≡ list_all (λ byte. is_some (mark_of byte)) line.now }
+// Whether the reading of a line stops at a byte: at a newline, and at a byte that is no mark.
+fn stops(byte: u8) -> bool
+    ensures { result ≡ stops_line byte }
 {
-    line.iter().all(|byte| Mark::of(*byte).is_some())
+    matches!(Mark::of(byte), None | Some(Mark::LineEnd))
+}
+
+// The place of the first byte at which the reading of a line stops.
+fn line_stop(text: &[u8]) -> Option<usize>
+    ensures value { result ≡ position stops_line text.now }
+    ensures within { IfSome result (λ place. place < length text.now) }
+{
+    text.iter().position(|byte| stops(*byte))
 }
 
 /// The first line of what is left of a sheet, without its newline, and what follows the line; no line where no newline ends it.
+#[tactic(auto, using(crate::proofs::Lines::first_stops))]
 pub fn first_line(sheet: &[u8]) -> Result<(Option<&[u8]>, &[u8]), MarkError>
     ensures line { IfOk result (λ p. (line_by sheet.now (option_copied p.0), p.1.now) ≡ first_line sheet.now) }
     ensures marks { is_ok result ≡ all_marks (first_line sheet.now).0.text }
 {
-    let (line, rest) = cut_line(sheet);
-    if all_marks(line) {
-        Ok((line_text(line), rest))
-    } else {
-        Err(MarkError)
+    // not by `cut_line`: its search for the newline goes on behind a byte that is no mark, however long the text is
+    match line_stop(sheet) {
+        Some(end) if sheet[end] == b'\n' => Ok((Some(&sheet[..end]), &sheet[end + 1..])),
+        Some(_) => Err(MarkError),
+        None => Ok((None, &[])),
     }
 }
 
