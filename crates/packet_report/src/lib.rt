@@ -3,12 +3,12 @@
 //! Main promise: the bytes written are those that the definition `carried_text`, or `refused_line_text`, gives; all others stay.
 #![tactic(auto)]
 
-ghost use Rattle.std.specs.Prelude.{◌≡◌, ◌<◌, [], ◌∷◌, length, nat_le};
+ghost use Rattle.std.specs.Prelude.{◌≡◌, ◌+◌, ◌*◌, ◌<◌, ◌≤◌, ◌++◌, length, codes, decimal, nat_le};
 ghost use Rattle.numbers.specs.Range.{IsOneTo480};
 ghost use Rattle.packet.specs.Answers.{leaves};
-ghost use Rattle.packet_text.specs.Hex.{hex_byte, hex_digit, hex_text};
+ghost use Rattle.packet_text.specs.Hex.{hex_digit, hex_text};
 ghost use Rattle.packet_report.specs.Texts.{carried_text, counts_text, print_answer, refused_line_text, report_room};
-ghost use Rattle.text_out.specs.Wrote.{Writes};
+ghost use Rattle.text_out.specs.Wrote.{Writes, Wrote};
 
 use numbers::ClientNumber;
 use refusal::Refusal;
@@ -29,14 +29,19 @@ fn hex_digit(value: u8) -> u8
     }
 }
 
-// Writes bytes in hexadecimal. The kit's `hex::encode_to_slice` refuses an output that is longer than the digits, so each byte is
-// written by itself; and into two places it would answer a `Result` for what cannot fail.
-fn put_hex(text: &mut TextOut<'_>, bytes: &[u8])
-    ensures { Writes text.old text.new (hex_text bytes.now) }
+// Writes bytes in hexadecimal from place `at` on, and answers the place behind them. By place, two digits a byte: `TextOut::put` for each
+// byte takes ten times as long and more, and the kit's `hex::encode_to_slice` would answer a `Result` for what cannot fail.
+fn put_hex(out: &mut [u8], at: usize, bytes: &[u8]) -> usize
+    requires { at + 2 * length bytes.now ≤ length out.old }
+    ensures { Wrote at (hex_text bytes.now) out.old out.new result }
 {
+    let mut end = at;
     for byte in bytes {
-        text.put(&[hex_digit(*byte / 16), hex_digit(*byte % 16)]);
+        out[end] = hex_digit(*byte / 16);
+        out[end + 1] = hex_digit(*byte % 16);
+        end += 2;
     }
+    end
 }
 
 // Writes a packet's client, bytes and blocks.
@@ -48,6 +53,24 @@ fn put_counts(text: &mut TextOut<'_>, client: ClientNumber, bytes: usize, blocks
     text.put_number(usize::from(client.number()), b": ");
     text.put_number(bytes, b" bytes, ");
     text.put_number(blocks, b" blocks, read back ");
+}
+
+// Writes what stands in front of the bytes that were read back, and answers how many places it takes.
+fn put_front(
+    out: &mut [u8],
+    client: ClientNumber,
+    bytes: usize,
+    blocks: usize,
+    back: usize,
+) -> usize
+    requires { 128 ≤ length out.old }
+    ensures wrote { Wrote 0 (counts_text client bytes blocks ++ (decimal back ++ codes " bytes ")) out.old out.new result }
+    ensures short { result < 128 }
+{
+    let mut text = TextOut::new(out);
+    put_counts(&mut text, client, bytes, blocks);
+    text.put_number(back, b" bytes ");
+    text.finish()
 }
 
 // Are there places for a line with so many bytes in it?
@@ -72,12 +95,10 @@ pub fn carried_line(
     if !has_room(back.len(), out.len()) {
         return Err(Refusal::OutputTooShort);
     }
-    let mut text = TextOut::new(out);
-    put_counts(&mut text, client, bytes, blocks);
-    text.put_number(back.len(), b" bytes ");
-    put_hex(&mut text, back);
-    text.put(b"\n");
-    Ok(text.finish())
+    let at = put_front(out, client, bytes, blocks, back.len());
+    let end = put_hex(out, at, back);
+    out[end] = b'\n';
+    Ok(end + 1)
 }
 
 /// Writes the line of a refused line, and answers how many bytes it has; refused with `OutputTooShort` where there are fewer than

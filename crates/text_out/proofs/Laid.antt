@@ -7,7 +7,7 @@ use Rattle.bits.proofs.Splices.{length_splice, splice_next, splice_none}
 use Rattle.text_out.specs.Wrote.{Puts, Wrote}
 
 -- one text after another
-wrote_more :
+pub wrote_more :
     {at m n : ℕ} {s t b o v : List ℕ} → at ≤ length b → Wrote at s b o m → Wrote m t o v n → Wrote at (s ++ t) b v n
 wrote_more {at} {m} {n} {s} {t} {b} {o} {v} room one two =
     let both = splice_next at m s t b room one.end_is in
