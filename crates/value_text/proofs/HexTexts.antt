@@ -1,5 +1,5 @@
 -- Hexadecimal text grows byte by byte.
-use Rattle.std.proofs.Common.{◌≡◌, ℕ, zero, suc, ◌+◌, ◌-◌, ◌^◌, ◌<◌, true, false, List, [], ◌∷◌, ◌++◌, length, get_or, take, Some, Option, sym, refl, ap, ◌∙◌, arith}
+use Rattle.std.proofs.Common.{◌≡◌, ℕ, zero, suc, ◌+◌, ◌-◌, ◌^◌, ◌<◌, true, false, cond, List, [], ◌∷◌, ◌++◌, length, get_or, take, is_ok, IfOk, Ok, Err, Result, Some, Option, sym, refl, ap, ◌∙◌, append_assoc, arith}
 use Rattle.std.specs.Option.{option_map}
 use Rattle.std.specs.Fmt.{format_spec, padded_integral, radix_digits}
 use Rattle.std.proofs.lemmas.Fmt.{hex_byte as hex_byte_written}
@@ -30,3 +30,17 @@ one_more bs zero blank l none one =
 one_more bs (suc i) blank l none one =
     ap (λ (t : List ℕ). hex_of (take (suc i) bs) ++ (t ++ capital_byte (get_or bs (suc i) 0))) (one (λ z. omega arith))
     ∙ sym (next_byte bs (suc i) (omega arith) l)
+
+-- two digits pushed, one after the other
+pub two_pushed : {X Y : Type 0} (r : Result X Y) (s0 s1 s2 one two : List ℕ) (a b : ℕ) → s1 ≡ s0 ++ one → one ≡ a ∷ [] → two ≡ b ∷ []
+    → s2 ≡ cond (is_ok r) (s1 ++ two) s1 → IfOk r (λ _. s2 ≡ s0 ++ (a ∷ b ∷ []))
+two_pushed (Ok x) s0 s1 s2 one two a b e f g h = h ∙ rw (e, f, g, append_assoc) refl
+two_pushed (Err y) s0 s1 s2 one two a b e f g h = tt
+
+-- a byte pushed behind what was there, with a blank before it unless it is the first
+pub pushed_more : (bs : List ℕ) (i : ℕ) (before between after blank : List ℕ) → i < length bs → before ≡ hex_of (take i bs) → between ≡ before ++ blank
+    → after ≡ between ++ capital_byte (get_or bs i 0) → (i ≡ 0 → blank ≡ []) → ((i ≡ 0 → ⊥) → blank ≡ 32 ∷ []) → after ≡ hex_of (take (i + 1) bs)
+pushed_more bs i before between after blank l e f g none one =
+    let byte : List ℕ = capital_byte (get_or bs i 0) in
+    g ∙ ap (λ (t : List ℕ). t ++ byte) f ∙ append_assoc before blank byte
+    ∙ ap (λ (t : List ℕ). t ++ (blank ++ byte)) e ∙ one_more bs i blank l none one
