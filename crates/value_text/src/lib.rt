@@ -78,7 +78,8 @@ fn push_byte(text: &mut String, byte: u8) -> Result<(), AllocError>
     text.push(capital_digit(byte % 16))
 }
 
-/// Bytes in hexadecimal, as `HexBytes` has them. Digit after digit is pushed, which takes a quarter of the time of a formatter.
+/// Bytes in hexadecimal, the text that `HexBytes` prints. Digits are pushed one by one, since a format for each byte takes several
+/// times as long.
 pub fn hex(alloc: Global, bytes: &[u8]) -> Result<String, AllocError>
     ensures { IfOk result (λ t. string_bytes t ≡ hex_of bytes.now) }
 {
