@@ -99,19 +99,7 @@ line_whole client bytes blocks back before front out at end room low one two =
     let whole = wrote_more (omega arith) (wrote_more (omega arith) one two) (wrote_byte end 10 out within) in
     (within, wrote_to (simp append_assoc refl) refl whole)
 
--- a carried packet's line and a refusal's fit
-pub short_carried :
-    (client bytes blocks : ℕ) (back : List ℕ) → client < 2 ^ 16 → bytes < 2 ^ 64 → blocks < 2 ^ 64 → length back < 2 ^ 64 →
-    length (carried_text client bytes blocks back) ≤ report_room (length back)
-unfolding carried_text counts_text
-short_carried client bytes blocks back a b c d =
-    let one = length-decimal-le 5 client (omega arith) (omega arith) (omega arith) in
-    let two = length-decimal-le 20 bytes (omega arith) (omega arith) (omega arith) in
-    let three = length-decimal-le 20 blocks (omega arith) (omega arith) (omega arith) in
-    let four = length-decimal-le 20 (length back) (omega arith) (omega arith) (omega arith) in
-    let hex = length_hex_text back in
-    simp length-append (omega arith)
-
+-- a refusal's line fits
 pub short_refused : (line : ℕ) (cause : Refusal) → line < 2 ^ 64 → number_of cause < 2 ^ 8 → length (refused_line_text line cause) ≤ report_room 0
 unfolding refused_line_text
 short_refused line cause a b =

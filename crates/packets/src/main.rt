@@ -75,7 +75,8 @@ impl<T: Drop> From<AllocFailed<T>> for Failure {
 }
 
 // Reads into the places until the input ends or they are full, and answers how many bytes were read. A read that a signal interrupts is
-// tried again. Not by the library's `copy`, whose buffer would take 8 KiB of stack, nor by `read_to_end`, which takes heap memory.
+// tried again; the reads are counted up to a number that no run reaches, since each function must end. Not by the library's `copy`, whose
+// buffer would take 8 KiB of stack, nor by `read_to_end`, which takes heap memory.
 fn fill<R: Read>(input: &mut R, places: &mut [u8]) -> io::Result<usize>
     ensures { IfOk result (λ n. n ≤ length places.old) }
 {

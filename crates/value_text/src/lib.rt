@@ -4,9 +4,9 @@
 //! Main promise: `line` says `ok` exactly if the text computed is the text expected, and each text is the one that its definition gives.
 #![tactic(auto)]
 
-ghost use Rattle.std.specs.Prelude.{◌≡◌, ◌<◌, ◌++◌, IfOk, OnOk, Some, string_bytes};
+ghost use Rattle.std.specs.Prelude.{◌≡◌, ◌<◌, [], ◌∷◌, IfOk, Some, string_bytes};
 ghost use Rattle.std.specs.Fmt.{WritesOnOk};
-ghost use Rattle.value_text.specs.Texts.{HexReadsBack, SameTexts, block_text, capital_byte, capital_digit, comparison_line, hex_of, refusal_text, sync_text, verdict_of};
+ghost use Rattle.value_text.specs.Texts.{HexReadsBack, SameTexts, block_text, capital_digit, comparison_line, hex_of, refusal_text, sync_text, verdict_of};
 
 use block::{Block, Sync};
 use refusal::Refusal;
@@ -28,12 +28,69 @@ impl fmt::Display for HexBytes<'_> {
     }
 }
 
+// A hexadecimal digit as text.
+fn digit_text(digit: u8) -> &'static str
+    requires { digit < 16 }
+    ensures { result.now ≡ capital_digit digit ∷ [] }
+{
+    match digit {
+        0 => "0",
+        1 => "1",
+        2 => "2",
+        3 => "3",
+        4 => "4",
+        5 => "5",
+        6 => "6",
+        7 => "7",
+        8 => "8",
+        9 => "9",
+        10 => "A",
+        11 => "B",
+        12 => "C",
+        13 => "D",
+        14 => "E",
+        _ => "F",
+    }
+}
+
+// The same with a blank in front.
+fn spaced_digit_text(digit: u8) -> &'static str
+    requires { digit < 16 }
+    ensures { result.now ≡ 32 ∷ capital_digit digit ∷ [] }
+{
+    match digit {
+        0 => " 0",
+        1 => " 1",
+        2 => " 2",
+        3 => " 3",
+        4 => " 4",
+        5 => " 5",
+        6 => " 6",
+        7 => " 7",
+        8 => " 8",
+        9 => " 9",
+        10 => " A",
+        11 => " B",
+        12 => " C",
+        13 => " D",
+        14 => " E",
+        _ => " F",
+    }
+}
+
+// Digit by digit: a format for each byte, as `{byte:02X}`, takes four times as long.
 fn write_hex<W: fmt::Write>(f: &mut fmt::Formatter<W>, bytes: &[u8]) -> fmt::Result
     ensures { WritesOnOk W.write_str_gives f.old result (hex_of bytes.now) f.new }
 {
     for (i, byte) in bytes.iter().enumerate() {
-        let blank = if i == 0 { "" } else { " " };
-        write!(f, "{blank}{byte:02X}")?;
+        let high = *byte / 16;
+        let first = if i == 0 {
+            digit_text(high)
+        } else {
+            spaced_digit_text(high)
+        };
+        f.write_str(first)?;
+        f.write_str(digit_text(*byte % 16))?;
     }
     Ok(())
 }
@@ -57,40 +114,12 @@ pub fn line(alloc: Global, name: &str, expected: &str, computed: &str) -> Result
     format!(in alloc; "{name}: expected {expected}, computed {computed}: {verdict}")
 }
 
-// A hexadecimal digit, above 9 a capital letter.
-fn capital_digit(digit: u8) -> char
-    requires { digit < 16 }
-    ensures value { result ≡ capital_digit digit }
-    ensures ascii { result < 128 }
-{
-    if digit < 10 {
-        char::from(b'0' + digit)
-    } else {
-        char::from(b'A' + (digit - 10))
-    }
-}
-
-// Appends a byte in hexadecimal.
-fn push_byte(text: &mut String, byte: u8) -> Result<(), AllocError>
-    ensures { OnOk result (string_bytes text.new ≡ string_bytes text.old ++ capital_byte byte) }
-{
-    text.push(capital_digit(byte / 16))?;
-    text.push(capital_digit(byte % 16))
-}
-
-/// Bytes in hexadecimal, the text that `HexBytes` prints. Digits are pushed one by one, since a format for each byte takes several
-/// times as long.
+/// Bytes in hexadecimal.
 pub fn hex(alloc: Global, bytes: &[u8]) -> Result<String, AllocError>
     ensures { IfOk result (λ t. string_bytes t ≡ hex_of bytes.now) }
 {
-    let mut text = String::new(alloc);
-    for (i, byte) in bytes.iter().enumerate() {
-        if i > 0 {
-            text.push(' ')?;
-        }
-        push_byte(&mut text, *byte)?;
-    }
-    Ok(text)
+    let hex = HexBytes { bytes };
+    format!(in alloc; "{hex}")
 }
 
 /// The verdict of `line` is `ok` exactly for equal texts.
@@ -120,7 +149,9 @@ pub fn block_text(alloc: Global, block: &Block) -> Result<String, AllocError>
     ensures { IfOk result (λ t. string_bytes t ≡ block_text block.now) }
 {
     let sync = sync_text(block.sync);
-    let bytes = hex(alloc, &block.bytes)?;
+    let bytes = HexBytes {
+        bytes: &block.bytes,
+    };
     format!(in alloc; "{sync} {bytes}")
 }
 
