@@ -8,8 +8,8 @@ use Rattle.hex.specs.Hex.{decode_sized, encode_lower, encode_with, lower_digits}
 use Rattle.hex.specs.declared.error.FromHexError.{FromHexError}
 use Rattle.hex.specs.declared.error.FromHexError.TheVariants.{InvalidStringLength}
 use Rattle.hex.proofs.HexLemmas.{decode_sized-other}
-use Rattle.packet_text.proofs.Hex.{decodes}
 use Rattle.block_text.specs.Lines.{block_bytes}
+use Rattle.block_text.proofs.Decoding.{decodes}
 use Rattle.packet_text.specs.Hex.{all_hex, hex_bytes, hex_digit, hex_text, is_hex}
 
 ok-err : (u : Unit {0}) (f : FromHexError) → ◌≡◌ {A = Result Unit FromHexError} (Ok u) (Err f) → ⊥
