@@ -67,7 +67,7 @@ fn hex_value(digit: u8) -> u8
 }
 
 // Writes the bytes that the digits stand for to the front of the output, and answers how many they are. The kit's
-// `hex::decode_to_slice` would test each digit again, and a line then takes more than twice as long.
+// `hex::decode_to_slice` would test each digit again, and a line then takes about twice as long.
 fn read_hex(digits: &[u8], out: &mut [u8]) -> Result<usize, Refusal>
     requires { is_hex digits.now ≡ true }
     ensures answer { result ≡ length_answer (hex_bytes digits.now) (length out.old) }

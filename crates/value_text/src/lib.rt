@@ -78,7 +78,7 @@ fn spaced_digit_text(digit: u8) -> &'static str
     }
 }
 
-// Digit by digit: a format for each byte, as `{byte:02X}`, takes four times as long.
+// Digit by digit: a format for each byte, as `{byte:02X}`, takes two to three times as long.
 fn write_hex<W: fmt::Write>(f: &mut fmt::Formatter<W>, bytes: &[u8]) -> fmt::Result
     ensures { WritesOnOk W.write_str_gives f.old result (hex_of bytes.now) f.new }
 {
